@@ -6,6 +6,7 @@ use Rattle.std.proofs.lemmas.Option.{get_or_from_slice_get, slice_get_within}
 use Rattle.kmipa_record.specs.Marks.{MarkOf, AreRecorded}
 use Rattle.kmipa_record.specs.Declarations.{DeclarationOf}
 use Rattle.kmipa_record.specs.Witnesses.{TurnOf}
+use Rattle.kmipa_check.specs.Grants.{grants_declared}
 use Rattle.kmipa_check.specs.Steps.{StepOf}
 use Rattle.kmipa_check.specs.Calls.{CallOf}
 use Rattle.kmipa_check.specs.Orders.{IsOrder, WitnessFaultAt}
@@ -74,12 +75,12 @@ module _ (marks : List MarkOf) (declared : DeclarationOf) (turns : List TurnOf) 
   accepted_is_yes_lem (Err Memory) h = inr refl
   accepted_is_yes_lem (Ok (No v)) h =
       let e : h.0 ≡ a.calls = same_calls marks h.0 a.calls r h.1 a.are in
-      let P : List CallOf → Type 0 = λ calls. IsOrder calls turns h.2.0 in
-      let o = one_order_lem a.calls turns h.2.0 a.steps once (subst P e h.2.1) a.order in
+      let P : List CallOf → Type 0 = λ calls. IsOrder (grants_declared declared) calls turns h.2.0 in
+      let o = one_order_lem (grants_declared declared) a.calls turns h.2.0 a.steps once (subst P e h.2.1) a.order in
       let Q : List StepOf → Type 0 = λ order. IsRefused declared order v in
       absurd (not_refused v (subst Q o h.2.2))
   accepted_is_yes_lem (Err (Outside number side o)) h = absurd (none_outside marks r a.calls number side o.item o.kind a.are h)
   accepted_is_yes_lem (Err (Witness f)) h =
       let e : h.0 ≡ a.calls = same_calls marks h.0 a.calls r h.1 a.are in
-      let P : List CallOf → Type 0 = λ calls. WitnessFaultAt calls turns f.at f.kind in
-      absurd (order_right a.calls turns once a.steps f.at f.kind a.order (subst P e h.2))
+      let P : List CallOf → Type 0 = λ calls. WitnessFaultAt (grants_declared declared) calls turns f.at f.kind in
+      absurd (order_right (grants_declared declared) a.calls turns once a.steps f.at f.kind a.order (subst P e h.2))

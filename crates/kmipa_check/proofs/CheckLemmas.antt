@@ -8,6 +8,7 @@ use Rattle.kmipa_record.specs.Marks.{MarkOf, AreRecorded, IsCallNumber, begun}
 use Rattle.kmipa_record.specs.Marks
 use Rattle.kmipa_record.specs.Witnesses.{TurnOf}
 use Rattle.kmipa_check.specs.Calls.{CallOf, call_of, AreCalls, IsRecorded}
+use Rattle.kmipa_check.specs.Grants.{GrantsOf, grants_declared}
 use Rattle.kmipa_check.specs.Steps.{StepOf}
 use Rattle.kmipa_check.specs.Orders.{IsOrder, AreFormed, OrderFault}
 use Rattle.kmipa_check.specs.Replays.{TellsRun, AllTakable}
@@ -44,16 +45,16 @@ calls_once marks calls r are =
     subst P (sym are.numbers) r.once
 
 -- each step can be taken
-pub steps_takable : (marks : List MarkOf) (calls : List CallOf) (turns : List TurnOf) (count : ℕ) (steps : List StepOf) → All (IsRecorded marks) calls → AreFormed calls turns count steps → AllTakable steps
-steps_takable marks calls turns count steps each formed s has =
+pub steps_takable : (g : GrantsOf) (marks : List MarkOf) (calls : List CallOf) (turns : List TurnOf) (count : ℕ) (steps : List StepOf) → All (IsRecorded marks) calls → AreFormed g calls turns count steps → AllTakable steps
+steps_takable g marks calls turns count steps each formed s has =
     let p = at_contains steps s has in
     let f = formed.each p.0 s p.1 in
     let P : CallOf → Type 0 = λ c. IsRecorded marks c in
-    (step_readable marks f.call f.turn s (subst P f.known.2 (each f.known.0 f.call f.known.1)) f.step, step_taken f.call f.turn s f.step)
+    (step_readable g marks f.call f.turn s (subst P f.known.2 (each f.known.0 f.call f.known.1)) f.step, step_taken g f.call f.turn s f.step)
 
 -- a fault of the order
 pub order_faults : (marks : List MarkOf) (declared : DeclarationOf) (turns : List TurnOf) (calls : List CallOf) (f : CheckFault) → AreCalls marks calls
-    → OrderFault calls turns f → Checks marks declared turns (Err f)
+    → OrderFault (grants_declared declared) calls turns f → Checks marks declared turns (Err f)
 order_faults marks declared turns calls (Outside number side o) are h = absurd h
 order_faults marks declared turns calls (Witness f) are h = (calls, are, h)
 order_faults marks declared turns calls Memory are h = tt
@@ -66,8 +67,8 @@ call_faults marks declared turns Memory h = tt
 
 -- what the replay tells
 pub run_reported : (marks : List MarkOf) (declared : DeclarationOf) (turns : List TurnOf) (calls : List CallOf) (steps : List StepOf) (result : Result Verdict CheckFault)
-    → AreCalls marks calls → IsOrder calls turns steps → TellsRun declared steps result → Checks marks declared turns result
-run_reported marks declared turns calls steps (Ok Yes) are o h = replayed_accepts marks declared turns calls steps h.0 are o (order_takes calls turns steps o) h.1
+    → AreCalls marks calls → IsOrder (grants_declared declared) calls turns steps → TellsRun declared steps result → Checks marks declared turns result
+run_reported marks declared turns calls steps (Ok Yes) are o h = replayed_accepts marks declared turns calls steps h.0 are o (order_takes (grants_declared declared) calls turns steps o) h.1
 run_reported marks declared turns calls steps (Ok (No refused)) are o h = (calls, are, (steps, o, h))
 run_reported marks declared turns calls steps (Err Memory) are o h = tt
 run_reported marks declared turns calls steps (Err (Outside number side o)) are p h = absurd h

@@ -1,5 +1,5 @@
 -- Fills: the places that wait for them, and what they make of a response.
-use Rattle.std.proofs.Common.{◌≡◌, ◌≢◌, ◌<◌, inl, inr, ℕ, zero, suc, List, [], ◌∷◌, Contains, Some, slice_get, refl, sym, ap, ◌∙◌, subst, arith}
+use Rattle.std.proofs.Common.{◌≡◌, ◌≢◌, ◌<◌, inl, inr, ℕ, zero, suc, ℤ, List, [], ◌∷◌, Contains, Some, slice_get, refl, sym, ap, ◌∙◌, subst, arith}
 use Rattle.std.specs.Prelude.{AllPairs}
 use Rattle.std.specs.List.{zip}
 use Rattle.std.proofs.lemmas.Option.{get_or_from_slice_get}
@@ -40,21 +40,22 @@ same_pair request response place ask other answer another a b =
     let q = pair_left request.items response.items place other another b.there in
     cc
 
+-- no two have one number
+pub once_at : {X : Type 0} (number : X → ℤ) (xs : List X) → AllPairs (λ (a b : X). number a ≢ number b) xs
+    → (i j : ℕ) (a b : X) → i < j → slice_get xs i ≡ Some a → slice_get xs j ≡ Some b → number a ≡ number b → ⊥
+once_at number xs once i j a b before at there same =
+    once i j a before (at_within xs j b there) (ap number (get_or_from_slice_get xs i a a at) ∙ same ∙ sym (ap number (get_or_from_slice_get xs j b a there)))
+
 -- no two fills are for one place
 module _ (fills : List FillOf) (once : AllPairs (λ (a b : FillOf). a.item ≢ b.item) fills) where
-  pub once_at : (i j : ℕ) (a b : FillOf) → i < j → slice_get fills i ≡ Some a → slice_get fills j ≡ Some b → a.item ≡ b.item → ⊥
-  once_at i j a b before at there same =
-      once i j a before (at_within fills j b there)
-      (ap (λ (f : FillOf). f.item) (get_or_from_slice_get fills i a a at) ∙ same ∙ sym (ap (λ (f : FillOf). f.item) (get_or_from_slice_get fills j b a there)))
-
   pub same_fill : (a b : FillOf) → Contains fills a → Contains fills b → a.item ≡ b.item → a ≡ b
   same_fill a b one other same = by (at_contains fills a one) (at_contains fills b other)
     where
       by : (i : ℕ) × (slice_get fills i ≡ Some a) → (j : ℕ) × (slice_get fills j ≡ Some b) → a ≡ b
       by p q = elim (apart p.0 q.0) [
-        | inl h ↦ absurd (once_at p.0 q.0 a b h p.1 q.1 same)
+        | inl h ↦ absurd (once_at (λ (f : FillOf). f.item) fills once p.0 q.0 a b h p.1 q.1 same)
         | inr g ↦ elim g [
-          | inl h ↦ absurd (once_at q.0 p.0 b a h q.1 p.1 (sym same))
+          | inl h ↦ absurd (once_at (λ (f : FillOf). f.item) fills once q.0 p.0 b a h q.1 p.1 (sym same))
           | inr e ↦
               let at = p.1 in
               let there = q.1 in

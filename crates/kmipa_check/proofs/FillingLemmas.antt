@@ -17,13 +17,13 @@ use Rattle.kmipa_check.specs.Fills.{IsWantedAt, IsWanted, IsFor, AreWanted, None
 use Rattle.kmipa_check.specs.Filling.{AreNumbered, AreWantedBelow, IsPutAt, waits, put, IsFilledUpTo, FillRead, FormFault, FillsRefused}
 use Rattle.kmipa_check.specs.Calls.{CallOf}
 use Rattle.kmipa_check.specs.CallReading.{AnswerRead}
-use Rattle.kmipa_check.specs.Orders.{Refuses, formless, unfit_answer, unfit_places, unfilled}
-use Rattle.kmipa_check.specs.Places.{AreTaken, PlacesRefused}
-use Rattle.kmipa_check.specs.Numbers.{place_in, StandsFirst, Indexes, is_noted}
-use Rattle.kmipa_check.specs.Ordering.{NoneWantedBelow}
+use Rattle.kmipa_check.specs.Orders.{formless}
+use Rattle.kmipa_check.specs.Numbers.{place_in, Indexes}
+use Rattle.kmipa_check.specs.Ordering.{AnswerRefused, NoneWantedBelow}
 use Rattle.kmipa_check.specs.Deciding.{Decided}
-use Rattle.kmipa_check.specs.Steps.{NeedsFill, IsAnswered}
+use Rattle.kmipa_check.specs.Steps.{NeedsFill}
 use Rattle.kmipa_check.proofs.FillLemmas.{pair_at, pair_left, pair_right, once_at, filled_itself}
+use Rattle.kmipa_check.proofs.ItemLemmas.{once_each, once_all, item_there, item_absent}
 use Rattle.kmipa_check.proofs.PlaceLemmas.{below_suc, mapped_from, contains_at, at_contains, get_at, at_within}
 
 -- ---- places that wait
@@ -67,110 +67,18 @@ none_wanted_all request response count h past (place, wanted) = h place (omega (
 
 -- ---- fills that are wanted
 
-pub wanted_none : (request : RequestOf) (response : ResponseOf) (fills : List FillOf) → AreWantedBelow request response fills 0
-wanted_none request response fills = record {
-  each = λ at fill below there. absurd (omega (arith, below));
-  first = λ at earlier fill other before below there stood same. omega (arith, below);
-}
-
-pub wanted_more : (request : RequestOf) (response : ResponseOf) (fills : List FillOf) (count : ℕ) (fill : FillOf) → slice_get fills count ≡ Some fill → IsWantedItem request response fill.item
-    → fill.item ≤ℤ pos 0x7FFF_FFFF → ((earlier : ℕ) (other : FillOf) → earlier < count → slice_get fills earlier ≡ Some other → other.item ≡ fill.item → ⊥)
-    → AreWantedBelow request response fills count → AreWantedBelow request response fills (count + 1)
-wanted_more request response fills count fill here wanted fits alone h =
-    let P : ℕ → Type 0 = λ n. AreWantedBelow request response fills n in
-    subst P (sym (add-one count)) (record {
-      each = λ at f below there. each_by at f there (below_suc at count below);
-      first = λ at earlier f other before below there stood same. first_by at earlier f other before there stood same (below_suc at count below);
-    })
-  where
-    same_here : (at : ℕ) (f : FillOf) → slice_get fills at ≡ Some f → at ≡ count → fill ≡ f
-    same_here at f there e = let P : ℕ → Type 0 = λ n. slice_get fills n ≡ Some f in let stands = subst P e there in cc
-
-    each_by : (at : ℕ) (f : FillOf) → slice_get fills at ≡ Some f → (at < count) ⊎ (at ≡ count) → IsWantedItem request response f.item × (f.item ≤ℤ pos 0x7FFF_FFFF)
-    each_by at f there (inl l) = h.each at f l there
-    each_by at f there (inr e) =
-        let P : FillOf → Type 0 = λ g. IsWantedItem request response g.item × (g.item ≤ℤ pos 0x7FFF_FFFF) in
-        subst P (same_here at f there e) (wanted, fits)
-
-    first_by : (at earlier : ℕ) (f other : FillOf) → earlier < at → slice_get fills at ≡ Some f → slice_get fills earlier ≡ Some other → other.item ≡ f.item
-        → (at < count) ⊎ (at ≡ count) → ⊥
-    first_by at earlier f other before there stood same (inl l) = h.first at earlier f other before l there stood same
-    first_by at earlier f other before there stood same (inr e) =
-        alone earlier other (omega (arith, before, e)) stood (same ∙ sym (ap (λ (g : FillOf). g.item) (same_here at f there e)))
+numbered : (request : RequestOf) (response : ResponseOf) (fills : List FillOf) (count : ℕ) → AreWantedBelow request response fills count → length fills ≤ count
+    → (fill : FillOf) → Contains fills fill → IsWantedItem request response fill.item × (fill.item ≤ℤ pos 0x7FFF_FFFF)
+numbered request response fills count h past = once_each (λ (f : FillOf). f.item) (λ item. IsWantedItem request response item × (item ≤ℤ pos 0x7FFF_FFFF)) fills count h past
 
 pub wanted_all : (request : RequestOf) (response : ResponseOf) (fills : List FillOf) (count : ℕ) → AreWantedBelow request response fills count → length fills ≤ count → AreWanted request response fills
 wanted_all request response fills count h past = record {
-  each = λ fill one. by fill (at_contains fills fill one);
-  once = λ i j d before within same.
-      h.first j i (get_or fills j d) (get_or fills i d) before (omega (arith, within, past)) (slice_get-get_or fills j d within) (slice_get-get_or fills i d (omega (arith, before, within))) same;
+  each = λ fill one. (numbered request response fills count h past fill one).0;
+  once = once_all (λ (f : FillOf). f.item) (λ item. IsWantedItem request response item × (item ≤ℤ pos 0x7FFF_FFFF)) fills count h past;
 }
-  where
-    by : (fill : FillOf) → (i : ℕ) × (slice_get fills i ≡ Some fill) → IsWantedItem request response fill.item
-    by fill p = (h.each p.0 fill (omega (arith, at_within fills p.0 fill p.1, past)) p.1).0
 
 pub numbered_all : (request : RequestOf) (response : ResponseOf) (fills : List FillOf) (count : ℕ) → AreWantedBelow request response fills count → length fills ≤ count → AreNumbered fills
-numbered_all request response fills count h past = λ fill one. by fill (at_contains fills fill one)
-  where
-    by : (fill : FillOf) → (i : ℕ) × (slice_get fills i ≡ Some fill) → fill.item ≤ℤ pos 0x7FFF_FFFF
-    by fill p = (h.each p.0 fill (omega (arith, at_within fills p.0 fill p.1, past)) p.1).1
-
--- ---- where an item's number first stands
-
-module _ (fills : List Fill) (places : FirstPlaces) (knows : Indexes (map (λ (f : Fill). Some f.item) fills) places) where
-  reported : (number : ℤ) (v : Option ℕ) → place_in places number ≡ v → StandsFirst (map (λ (f : Fill). Some f.item) fills) (length (map (λ (f : Fill). Some f.item) fills)) number v
-  reported number v e =
-      let P : Option ℕ → Type 0 = λ w. StandsFirst (map (λ (f : Fill). Some f.item) fills) (length (map (λ (f : Fill). Some f.item) fills)) number w in
-      subst P e (knows number)
-
-  -- the number of a fill stands at its place
-  stands : (at : ℕ) (f : FillOf) → slice_get (map fill_of fills) at ≡ Some f → slice_get (map (λ (f : Fill). Some f.item) fills) at ≡ Some (Some f.item)
-  stands at f there =
-      let m = mapped_from fill_of fills at f there in
-      get_at (λ (f : Fill). Some f.item) fills at m.0 m.1 ∙ ap (λ (g : FillOf). Some (Some g.item)) m.2
-
-  pub first_item : (at : ℕ) (number : ℤ) → is_noted (place_in places number) at ≡ true
-      → (earlier : ℕ) (other : FillOf) → earlier < at → slice_get (map fill_of fills) earlier ≡ Some other → other.item ≡ number → ⊥
-  first_item at number first earlier other before there same = by (place_in places number) refl first
-    where
-      by : (v : Option ℕ) → place_in places number ≡ v → is_noted v at ≡ true → ⊥
-      by None e noted = absurd cc
-      by (Some q) e noted =
-          let same_place : q ≡ at = grind (arith, nat_tests) in
-          (reported number (Some q) e).1.first earlier (omega (arith, before, same_place)) (stands earlier other there ∙ ap (λ (z : ℤ). Some (Some z)) same)
-
-  pub second_item : (at : ℕ) (f : FillOf) → slice_get (map fill_of fills) at ≡ Some f → is_noted (place_in places f.item) at ≡ false
-      → (earlier : ℕ) × (other : FillOf) × (earlier < at) × (slice_get (map fill_of fills) earlier ≡ Some other) × (other.item ≡ f.item)
-  second_item at f there not = by (place_in places f.item) refl not
-    where
-      here : slice_get (map (λ (f : Fill). Some f.item) fills) at ≡ Some (Some f.item)
-      here = stands at f there
-
-      by : (v : Option ℕ) → place_in places f.item ≡ v → is_noted v at ≡ false
-          → (earlier : ℕ) × (other : FillOf) × (earlier < at) × (slice_get (map fill_of fills) earlier ≡ Some other) × (other.item ≡ f.item)
-      by None e noted = absurd (reported f.item None e at (slice_get_within (map (λ (f : Fill). Some f.item) fills) at (Some f.item) here) here)
-      by (Some q) e noted =
-          let found = (reported f.item (Some q) e).1 in
-          let m = mapped_from (λ (f : Fill). Some f.item) fills q (Some f.item) found.there in
-          let is : m.0.item ≡ f.item = cc in
-          (q, fill_of m.0, under q (λ l. found.first at l here) noted, get_at fill_of fills q m.0 m.1, is)
-        where
-          under : (q : ℕ) → (at < q → ⊥) → (q == at) ≡ false → q < at
-          under q a b = grind (arith, nat_tests)
-
-  pub fill_there : (number : ℤ) (q : ℕ) → place_in places number ≡ Some q → (fill : FillOf) × Contains (map fill_of fills) fill × (fill.item ≡ number)
-  fill_there number q e =
-      let found = (reported number (Some q) e).1 in
-      let m = mapped_from (λ (f : Fill). Some f.item) fills q (Some number) found.there in
-      let is : m.0.item ≡ number = cc in
-      (fill_of m.0, contains_at (map fill_of fills) q (fill_of m.0) (get_at fill_of fills q m.0 m.1), is)
-
-  pub fill_absent : (number : ℤ) → place_in places number ≡ None → (fill : FillOf) → Contains (map fill_of fills) fill → fill.item ≡ number → ⊥
-  fill_absent number e fill one is = by (at_contains (map fill_of fills) fill one)
-    where
-      by : (i : ℕ) × (slice_get (map fill_of fills) i ≡ Some fill) → ⊥
-      by p =
-          let here = stands p.0 fill p.1 ∙ ap (λ (z : ℤ). Some (Some z)) is in
-          reported number None e p.0 (slice_get_within (map (λ (f : Fill). Some f.item) fills) p.0 (Some number) here) here
+numbered_all request response fills count h past = λ fill one. (numbered request response fills count h past fill one).1
 
 -- ---- places that have their fills
 
@@ -232,9 +140,9 @@ wanted_decided request response place ask answer false asked answered h =
 
 pub fill_decided : (fills : List Fill) (places : FirstPlaces) → Indexes (map (λ (f : Fill). Some f.item) fills) places → (number : ℤ) (place : ℕ) → number ≡ pos (place + 1)
     → (v : Option ℕ) → place_in places number ≡ v → Decided (is_some v) (HasFillFor (map fill_of fills) place)
-fill_decided fills places knows number place is None e = λ h. fill_absent fills places knows number e h.0 h.1 (h.2 ∙ sym is)
+fill_decided fills places knows number place is None e = λ h. item_absent fill_of (λ (f : FillOf). f.item) fills places knows number e h.0 h.1 (h.2 ∙ sym is)
 fill_decided fills places knows number place is (Some q) e =
-    let f = fill_there fills places knows number q e in
+    let f = item_there fill_of (λ (f : FillOf). f.item) fills places knows number q e in
     (f.0, f.1, f.2 ∙ is)
 
 -- a number that 32 bits hold
@@ -256,7 +164,7 @@ wanted_not request response fills at fill there never w = never (w.each fill (co
 
 pub wanted_twice : (request : RequestOf) (response : ResponseOf) (fills : List FillOf) (at earlier : ℕ) (fill other : FillOf) → slice_get fills at ≡ Some fill → earlier < at
     → slice_get fills earlier ≡ Some other → other.item ≡ fill.item → AreWanted request response fills → ⊥
-wanted_twice request response fills at earlier fill other there before stood same w = once_at fills w.once earlier at other fill before stood there same
+wanted_twice request response fills at earlier fill other there before stood same w = once_at (λ (f : FillOf). f.item) fills w.once earlier at other fill before stood there same
 
 -- ---- one fill more
 
@@ -358,20 +266,9 @@ filled_nothing request response [] none complete = filled_itself request respons
     never place (fill, one, its) = let p = at_contains [] fill one in let at = p.1 in cc
 filled_nothing request response (x ∷ fills) none complete = absurd cc
 
--- fills that are refused refuse the turn
-pub turn_refused : (c : CallOf) (t : TurnOf) (response : ResponseOf) (places : Option (List ℕ)) (fault : StepFault) → IsAnswered c t response
-    → AreTaken c.request response t.places places → FillsRefused c.request response t.fills fault → Refuses c t fault
-turn_refused c t response places (Unfit kind) answered taken reported = unfilled response answered places taken.0 taken.1 reported
-turn_refused c t response places Memory answered taken reported = tt
-
--- places that are refused refuse it
-pub places_refuse : (c : CallOf) (t : TurnOf) (response : ResponseOf) (fault : StepFault) → IsAnswered c t response → PlacesRefused c.request response t.places fault → Refuses c t fault
-places_refuse c t response (Unfit kind) answered reported = unfit_places response answered reported
-places_refuse c t response Memory answered reported = tt
-
--- an answer that is outside refuses the turn of an open call
-pub answer_refused : (c : CallOf) (t : TurnOf) (bytes : List ℕ) (fault : StepFault) → c.response ≡ None → t.answer ≡ Some bytes → AnswerRead c.request bytes (Err fault) → Refuses c t fault
-answer_refused c t bytes (Unfit kind) unended some (is, (item, reason, out)) = unfit_answer (formless bytes item reason unended some out is)
+-- an answer that is outside is refused
+pub answer_refused : (c : CallOf) (t : TurnOf) (bytes : List ℕ) (fault : StepFault) → c.response ≡ None → t.answer ≡ Some bytes → AnswerRead c.request bytes (Err fault) → AnswerRefused c t fault
+answer_refused c t bytes (Unfit kind) unended some (is, (item, reason, out)) = formless bytes item reason unended some out is
 answer_refused c t bytes Memory unended some reported = tt
 
 pub some_not : {X Y : Type 0} (f : X → Y) (o : Option X) (b : Bool) → b ≡ is_some o → b ≡ true → option_map f o ≡ None → ⊥

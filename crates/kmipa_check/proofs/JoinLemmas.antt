@@ -12,6 +12,7 @@ use Rattle.kmipa_msgs.specs.Messages.{RulesOf, ResponseOf}
 use Rattle.kmipa_check.specs.Calls.{CallOf, AreCalls, HasBegin, HasEnd, IsEnded, has_ended, is_open, IsRecorded}
 use Rattle.kmipa_check.specs.Steps.{StepOf, IsAnswered, recorded, given, IsStep}
 use Rattle.kmipa_check.specs.Described.{Describes}
+use Rattle.kmipa_check.specs.Grants.{GrantsOf}
 use Rattle.kmipa_check.specs.Orders.{NamesAt, IsNamed, IsFormed, IsOrder}
 use Rattle.kmipa_check.specs.Runs.{EndsAhead, Before, IsPlaced, Linked, rules_declared}
 use Rattle.kmipa_check.specs.Left.{CanEnd, IsLeft}
@@ -85,22 +86,26 @@ abbrev pub moved : ℕ → CallOf → CallOf
 moved n c = record { number = c.number; begin = n + c.begin; end = option_map (λ (e : ℕ). n + e) c.end; request = c.request; response = c.response }
 
 abbrev pub step_moved : ℕ → StepOf → StepOf
-step_moved n s = record { number = s.number; begin = n + s.begin; end = option_map (λ (e : ℕ). n + e) s.end; request = s.request; response = s.response; places = s.places }
+step_moved n s = record { number = s.number; begin = n + s.begin; end = option_map (λ (e : ℕ). n + e) s.end; request = s.request; response = s.response; stamp = s.stamp; places = s.places }
 
 end_moved : (n : ℕ) (o : Option ℕ) (e : ℕ) → option_map (λ (x : ℕ). n + x) o ≡ Some e → (x : ℕ) × (o ≡ Some x)
 end_moved n None e is = absurd cc
 end_moved n (Some x) e is = (x, refl)
 
-step_moves : (n : ℕ) (c : CallOf) (t : TurnOf) (s : StepOf) → IsStep c t s → IsStep (moved n c) t (step_moved n s)
-step_moves n c t s i = record {
+step_moves : (g : GrantsOf) (n : ℕ) (c : CallOf) (t : TurnOf) (s : StepOf) → IsStep g c t s → IsStep g (moved n c) t (step_moved n s)
+step_moves g n c t s i = record {
   named = i.named;
   response = i.response;
   answered = by i.response i.answered;
+  moment = i.moment;
+  timed = i.timed;
   places = i.places;
   ordered = i.ordered;
   taken = i.taken;
   full = i.full;
   filled = i.filled;
+  no_birth = i.no_birth;
+  no_aside = i.no_aside;
   is = ap (step_moved n) i.is;
 }
   where
@@ -163,9 +168,9 @@ begins_below marks calls c are has =
     slice_get_within marks c.begin (begins c.number x.carried.client x.asked) x.carried.there
 
 -- what a turn of a formed witness names has begun
-pub named_begun : (marks : List MarkOf) (calls : List CallOf) (turns : List TurnOf) (steps : List StepOf) (place : ℕ) (number : ℤ) → AreCalls marks calls → IsOrder calls turns steps
+pub named_begun : (g : GrantsOf) (marks : List MarkOf) (calls : List CallOf) (turns : List TurnOf) (steps : List StepOf) (place : ℕ) (number : ℤ) → AreCalls marks calls → IsOrder g calls turns steps
     → NamesAt turns place number → Contains (begun marks) number
-named_begun marks calls turns steps place number are o (turn, there, is) =
+named_begun g marks calls turns steps place number are o (turn, there, is) =
     let s = some_at steps place (omega (arith, slice_get_within turns place turn there, o.counted)) in
     let f = o.formed place s.0 s.1 in
     let at = f.there in
@@ -227,14 +232,14 @@ module _ (first second : List MarkOf) (rf : HaveBegun first) (rs : HaveBegun sec
         subst P p.2 (recorded_second p.0 (recorded_at second more i p.0 b p.1)));
   }
 
-  module _ (calls more : List CallOf) (turns ts : List TurnOf) (steps ss : List StepOf) (a : AreCalls first calls) (b : AreCalls second more) (o : IsOrder calls turns steps) (q : IsOrder more ts ss) where
+  module _ (g : GrantsOf) (calls more : List CallOf) (turns ts : List TurnOf) (steps ss : List StepOf) (a : AreCalls first calls) (b : AreCalls second more) (o : IsOrder g calls turns steps) (q : IsOrder g more ts ss) where
     abbrev all_calls : List CallOf
     all_calls = calls ++ map (moved n) more
 
     abbrev all_steps : List StepOf
     all_steps = steps ++ map (step_moved n) ss
 
-    formed_first : (place : ℕ) (s : StepOf) → IsFormed calls turns place s → IsFormed all_calls (turns ++ ts) place s
+    formed_first : (place : ℕ) (s : StepOf) → IsFormed g calls turns place s → IsFormed g all_calls (turns ++ ts) place s
     formed_first place s f = record {
       turn = f.turn;
       there = at_front turns ts place f.turn f.there;
@@ -247,35 +252,35 @@ module _ (first second : List MarkOf) (rf : HaveBegun first) (rs : HaveBegun sec
       step = f.step;
     }
 
-    formed_second : (place : ℕ) (s : StepOf) → IsFormed more ts place s → IsFormed all_calls (turns ++ ts) (length turns + place) (step_moved n s)
+    formed_second : (place : ℕ) (s : StepOf) → IsFormed g more ts place s → IsFormed g all_calls (turns ++ ts) (length turns + place) (step_moved n s)
     formed_second place s f =
         let at = at_contains more f.call f.known in
         record {
           turn = f.turn;
           there = at_back turns ts place f.turn f.there;
           first = λ (earlier, below, (t, there, same)). elim (at_either turns ts earlier t there) [
-            | inl p ↦ apart f.turn.call (named_begun first calls turns steps earlier f.turn.call a o (t, p, same)) (named_begun second more ts ss place f.turn.call b q (f.turn, f.there, refl))
+            | inl p ↦ apart f.turn.call (named_begun g first calls turns steps earlier f.turn.call a o (t, p, same)) (named_begun g second more ts ss place f.turn.call b q (f.turn, f.there, refl))
             | inr p ↦ f.first (p.0, omega (arith, below, p.1), (t, p.2, same))
           ];
           call = moved n f.call;
           known = Contains-append_right calls (map (moved n) more) (moved n f.call) (contains_at (map (moved n) more) at.0 (moved n f.call) (get_at (moved n) more at.0 f.call at.1));
-          step = step_moves n f.call f.turn s f.step;
+          step = step_moves g n f.call f.turn s f.step;
         }
 
-    pub order_join : IsOrder all_calls (turns ++ ts) all_steps
+    pub order_join : IsOrder g all_calls (turns ++ ts) all_steps
     order_join = record { counted = counted; formed = formed; all = λ c end has is. by c end is (at_contains all_calls c has) }
       where
         counted : length all_steps ≡ length (turns ++ ts)
         counted = omega (arith, length-append steps (map (step_moved n) ss), length-map ss (step_moved n), length-append turns ts, o.counted, q.counted)
 
-        formed : (place : ℕ) (s : StepOf) → slice_get all_steps place ≡ Some s → IsFormed all_calls (turns ++ ts) place s
+        formed : (place : ℕ) (s : StepOf) → slice_get all_steps place ≡ Some s → IsFormed g all_calls (turns ++ ts) place s
         formed place s at = elim (at_either steps (map (step_moved n) ss) place s at) [
           | inl p ↦ formed_first place s (o.formed place s p)
           | inr p ↦
               let m = mapped_from (step_moved n) ss p.0 s p.2 in
               let e : length turns + p.0 ≡ place = omega (arith, p.1, o.counted) in
-              let P : ℕ → Type 0 = λ k. IsFormed all_calls (turns ++ ts) k s in
-              let Q : StepOf → Type 0 = λ x. IsFormed all_calls (turns ++ ts) (length turns + p.0) x in
+              let P : ℕ → Type 0 = λ k. IsFormed g all_calls (turns ++ ts) k s in
+              let Q : StepOf → Type 0 = λ x. IsFormed g all_calls (turns ++ ts) (length turns + p.0) x in
               subst P e (subst Q m.2 (formed_second p.0 m.0 (q.formed p.0 m.0 m.1)))
         ]
 
@@ -327,7 +332,7 @@ module _ (first second : List MarkOf) (rf : HaveBegun first) (rs : HaveBegun sec
 
 -- what the second leaves of what the first leaves
 pub left_join : (n : ℕ) (declared between left : DeclarationOf) (steps ss : List StepOf) → IsLeft declared steps between → IsLeft between ss left → IsLeft declared (steps ++ map (step_moved n) ss) left
-left_join n declared between left steps ss a b = record { objects = b.objects; rules = b.rules ∙ a.rules; exactly = λ last. (to last, from last) }
+left_join n declared between left steps ss a b = record { objects = b.objects; rules = b.rules ∙ a.rules; grants = b.grants ∙ a.grants; exactly = λ last. (to last, from last) }
   where
     to : (last : List Thing) → Describes left last → CanEnd declared (steps ++ map (step_moved n) ss) last
     to last d =

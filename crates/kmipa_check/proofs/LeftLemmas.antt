@@ -21,6 +21,7 @@ use Rattle.std.proofs.lemmas.List.{take_all}
 use Rattle.kmipa_record.specs.Marks.{MarkOf}
 use Rattle.kmipa_record.specs.Witnesses.{TurnOf}
 use Rattle.kmipa_check.specs.Calls.{CallOf, AreCalls}
+use Rattle.kmipa_check.specs.Grants.{grants_declared}
 use Rattle.kmipa_check.specs.Orders.{IsOrder}
 use Rattle.kmipa_check.specs.Replays.{Replayed}
 use Rattle.kmipa_check.proofs.ReplayLemmas.{is_placed}
@@ -248,6 +249,7 @@ module _ (declared : DeclarationOf) (m : Meaning) (sound : IsSound m) where
   is_left_lem steps k = record {
     objects = left_declared;
     rules = refl;
+    grants = refl;
     exactly = λ V. (
       (λ d.
           let q = left_describes k.ascends V d in
@@ -263,7 +265,7 @@ module _ (declared : DeclarationOf) (m : Meaning) (sound : IsSound m) where
 
 -- a replay to the end leaves what the declaration of its ledger describes
 pub replayed_leaves : (marks : List MarkOf) (declared : DeclarationOf) (turns : List TurnOf) (calls : List CallOf) (order : List StepOf) (m : Meaning) (left : DeclarationOf) → AreCalls marks calls
-    → IsOrder calls turns order → Replayed declared order (length order) m → left ≡ declaration_left declared m → (l : LeavesDeclaration marks declared turns left) × (l.steps ≡ order)
+    → IsOrder (grants_declared declared) calls turns order → Replayed declared order (length order) m → left ≡ declaration_left declared m → (l : LeavesDeclaration marks declared turns left) × (l.steps ≡ order)
 replayed_leaves marks declared turns calls order m left are o r is =
     let P : List StepOf → Type 0 = λ steps. AreKnown declared steps m in
     let Q : DeclarationOf → Type 0 = λ d. IsLeft declared order d in (

@@ -8,7 +8,10 @@ pub mod NumberLemmas
 pub mod LateLemmas
 pub mod OrderLemmas
 pub mod FillLemmas
+pub mod ItemLemmas
 pub mod FillingLemmas
+pub mod BirthLemmas
+pub mod GivenLemmas
 pub mod PlacesLemmas
 pub mod CompletedLemmas
 pub mod WholeOrderLemmas

@@ -10,6 +10,7 @@ use Rattle.kmipa_record.specs.Marks.{MarkOf}
 use Rattle.kmipa_record.specs.Declarations.{DeclarationOf}
 use Rattle.kmipa_record.specs.Witnesses.{TurnOf}
 use Rattle.kmipa_check.specs.Calls.{CallOf, AreCalls}
+use Rattle.kmipa_check.specs.Grants.{GrantsOf, grants_declared}
 use Rattle.kmipa_check.specs.Steps.{StepOf, IsStep}
 use Rattle.kmipa_check.specs.Orders.{NamesBefore, IsNamed, IsFormed, IsOrder}
 use Rattle.kmipa_check.specs.Runs.{Before, IsPlaced, TakeEachOnce, IsAccepted}
@@ -65,11 +66,11 @@ placed_one_by_one_lem steps = (
 
 -- ---- steps that are made by turns
 
-module _ (calls : List CallOf) where
+module _ (g : GrantsOf) (calls : List CallOf) where
   abbrev Makes : TurnOf → StepOf → Type 0
-  Makes t s = (c : CallOf) × Contains calls c × IsStep c t s
+  Makes t s = (c : CallOf) × Contains calls c × IsStep g c t s
 
-  made_at : (turns : List TurnOf) (steps : List StepOf) (i : ℕ) (s : StepOf) → AreMade calls turns steps → slice_get steps i ≡ Some s → (t : TurnOf) × (slice_get turns i ≡ Some t) × Makes t s
+  made_at : (turns : List TurnOf) (steps : List StepOf) (i : ℕ) (s : StepOf) → AreMade g calls turns steps → slice_get steps i ≡ Some s → (t : TurnOf) × (slice_get turns i ≡ Some t) × Makes t s
   made_at [] [] i s h at = absurd cc
   made_at [] (x ∷ steps) i s h at = absurd h
   made_at (t ∷ turns) [] i s h at = absurd h
@@ -79,7 +80,7 @@ module _ (calls : List CallOf) where
       (t, refl, subst P e h.0)
   made_at (t ∷ turns) (x ∷ steps) (suc i) s h at = made_at turns steps i s h.1 at
 
-  made_from : (turns : List TurnOf) (steps : List StepOf) (i : ℕ) (t : TurnOf) → AreMade calls turns steps → slice_get turns i ≡ Some t → (s : StepOf) × (slice_get steps i ≡ Some s) × Makes t s
+  made_from : (turns : List TurnOf) (steps : List StepOf) (i : ℕ) (t : TurnOf) → AreMade g calls turns steps → slice_get turns i ≡ Some t → (s : StepOf) × (slice_get steps i ≡ Some s) × Makes t s
   made_from [] [] i t h at = absurd cc
   made_from [] (x ∷ steps) i t h at = absurd h
   made_from (u ∷ turns) [] i t h at = absurd h
@@ -92,7 +93,7 @@ module _ (calls : List CallOf) where
   its_number : (t : TurnOf) (s : StepOf) → Makes t s → t.call ≡ s.number
   its_number t s m = m.2.named ∙ sym (ap (λ (x : StepOf). x.number) m.2.is)
 
-  made_order : (turns : List TurnOf) (steps : List StepOf) → AreMade calls turns steps → TakeEachOnce calls steps → IsOrder calls turns steps
+  made_order : (turns : List TurnOf) (steps : List StepOf) → AreMade g calls turns steps → TakeEachOnce g calls steps → IsOrder g calls turns steps
   made_order turns steps made once = record {
     counted = AllZip-long Makes turns steps made;
     formed = formed;
@@ -107,7 +108,7 @@ module _ (calls : List CallOf) where
           let number : StepOf → _ = λ y. y.number in
           once.once earlier place s below (slice_get_within steps place s at) (ap number a ∙ sym (its_number other x.0 x.2) ∙ same ∙ is ∙ sym (ap number b))
 
-      formed : (place : ℕ) (s : StepOf) → slice_get steps place ≡ Some s → IsFormed calls turns place s
+      formed : (place : ℕ) (s : StepOf) → slice_get steps place ≡ Some s → IsFormed g calls turns place s
       formed place s at =
           let t = made_at turns steps place s made at in
           record { turn = t.0; there = t.1; first = twice place t.0 s at (its_number t.0 s t.2); call = t.2.0; known = t.2.1; step = t.2.2 }
@@ -119,7 +120,7 @@ module _ (calls : List CallOf) where
           (p.0, (t.0, t.1, its_number t.0 s t.2 ∙ is))
 
 pub known_is_accepted_lem : (marks : List MarkOf) (declared : DeclarationOf) (calls : List CallOf) (turns : List TurnOf) (steps : List StepOf) (m : Meaning)
-    → AreCalls marks calls → AreMade calls turns steps → TakeEachOnce calls steps → IsPlaced steps → AreKnown declared steps m → IsSound m → IsAccepted marks declared turns
+    → AreCalls marks calls → AreMade (grants_declared declared) calls turns steps → TakeEachOnce (grants_declared declared) calls steps → IsPlaced steps → AreKnown declared steps m → IsSound m → IsAccepted marks declared turns
 known_is_accepted_lem marks declared calls turns steps m are made once placed known sound =
     let c = sound.choice in
     let f = known.sound c.0 c.1 in
@@ -127,7 +128,7 @@ known_is_accepted_lem marks declared calls turns steps m are made once placed kn
       calls = calls;
       are = are;
       steps = steps;
-      order = made_order calls turns steps made once;
+      order = made_order (grants_declared declared) calls turns steps made once;
       start = f.0;
       described = f.1;
       run = record { once = once; placed = placed; last = inv c.0 m.objects; linked = f.2 };

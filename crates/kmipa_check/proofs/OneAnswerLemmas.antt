@@ -4,6 +4,7 @@ use Rattle.kmipa_record.specs.Marks.{MarkOf, AreRecorded}
 use Rattle.kmipa_record.specs.Declarations.{DeclarationOf}
 use Rattle.kmipa_record.specs.Witnesses.{TurnOf}
 use Rattle.kmipa_check.specs.Calls.{CallOf, AreCalls}
+use Rattle.kmipa_check.specs.Grants.{grants_declared}
 use Rattle.kmipa_check.specs.Steps.{StepOf}
 use Rattle.kmipa_check.specs.Orders.{IsOrder, WitnessFaultAt}
 use Rattle.kmipa_check.specs.Verdicts.{IsRefused, Checks}
@@ -34,16 +35,16 @@ module _ (marks : List MarkOf) (declared : DeclarationOf) (turns : List TurnOf) 
   no_and_no : (v w : Refused) → Checks marks declared turns (Ok (No v)) → Checks marks declared turns (Ok (No w)) → AreOne (Ok (No v)) (Ok (No w))
   no_and_no v w h k =
       let e : k.0 ≡ h.0 = same_calls marks k.0 h.0 r k.1 h.1 in
-      let P : List CallOf → Type 0 = λ calls. IsOrder calls turns k.2.0 in
-      let o = one_order_lem h.0 turns k.2.0 h.2.0 (its_numbers h.0 h.1) (subst P e k.2.1) h.2.1 in
+      let P : List CallOf → Type 0 = λ calls. IsOrder (grants_declared declared) calls turns k.2.0 in
+      let o = one_order_lem (grants_declared declared) h.0 turns k.2.0 h.2.0 (its_numbers h.0 h.1) (subst P e k.2.1) h.2.1 in
       let Q : List StepOf → Type 0 = λ order. IsRefused declared order w in
       one_refused declared h.2.0 v w h.2.2 (subst Q o k.2.2)
 
-  no_and_witness : (v : Refused) (at : ℕ) (kind : WitnessKind) → Checks marks declared turns (Ok (No v)) → (calls : List CallOf) → AreCalls marks calls → WitnessFaultAt calls turns at kind → ⊥
+  no_and_witness : (v : Refused) (at : ℕ) (kind : WitnessKind) → Checks marks declared turns (Ok (No v)) → (calls : List CallOf) → AreCalls marks calls → WitnessFaultAt (grants_declared declared) calls turns at kind → ⊥
   no_and_witness v at kind h calls are f =
       let e : calls ≡ h.0 = same_calls marks calls h.0 r are h.1 in
-      let P : List CallOf → Type 0 = λ cs. WitnessFaultAt cs turns at kind in
-      order_right h.0 turns (its_numbers h.0 h.1) h.2.0 at kind h.2.1 (subst P e f)
+      let P : List CallOf → Type 0 = λ cs. WitnessFaultAt (grants_declared declared) cs turns at kind in
+      order_right (grants_declared declared) h.0 turns (its_numbers h.0 h.1) h.2.0 at kind h.2.1 (subst P e f)
 
   no_is_no : (v : Refused) (a : Result Verdict CheckFault) → a ≡ Ok (No v) → (a ≡ Ok Yes) ⊎ (a ≡ Err Memory) → ⊥
   no_is_no v a is (inl e) = absurd cc
@@ -65,11 +66,11 @@ module _ (marks : List MarkOf) (declared : DeclarationOf) (turns : List TurnOf) 
   one_answer_lem (Err (Witness f)) (Err Memory) h k = tt
   one_answer_lem (Err (Witness f)) (Ok Yes) h k =
       let e : h.0 ≡ k.calls = same_calls marks h.0 k.calls r h.1 k.are in
-      let P : List CallOf → Type 0 = λ cs. WitnessFaultAt cs turns f.at f.kind in
-      absurd (order_right k.calls turns (its_numbers k.calls k.are) k.steps f.at f.kind k.order (subst P e h.2))
+      let P : List CallOf → Type 0 = λ cs. WitnessFaultAt (grants_declared declared) cs turns f.at f.kind in
+      absurd (order_right (grants_declared declared) k.calls turns (its_numbers k.calls k.are) k.steps f.at f.kind k.order (subst P e h.2))
   one_answer_lem (Err (Witness f)) (Ok (No w)) h k = absurd (no_and_witness w f.at f.kind k h.0 h.1 h.2)
   one_answer_lem (Err (Witness f)) (Err (Outside n s o)) h k = absurd (none_outside marks r h.0 n s o.item o.kind h.1 k)
   one_answer_lem (Err (Witness f)) (Err (Witness g)) h k =
       let e : k.0 ≡ h.0 = same_calls marks k.0 h.0 r k.1 h.1 in
-      let P : List CallOf → Type 0 = λ cs. WitnessFaultAt cs turns g.at g.kind in
-      one_witness_fault h.0 turns (its_numbers h.0 h.1) f.at g.at f.kind g.kind h.2 (subst P e k.2)
+      let P : List CallOf → Type 0 = λ cs. WitnessFaultAt (grants_declared declared) cs turns g.at g.kind in
+      one_witness_fault (grants_declared declared) h.0 turns (its_numbers h.0 h.1) f.at g.at f.kind g.kind h.2 (subst P e k.2)

@@ -13,6 +13,7 @@ use Rattle.kmipa_check.specs.declared.fault.WitnessKind.{WitnessKind}
 use Rattle.kmipa_check.specs.declared.fault.WitnessKind.TheVariants.{UnknownCall, Twice}
 use Rattle.kmipa_check.specs.declared.step.Step.{Step}
 use Rattle.kmipa_check.specs.Calls.{CallOf, call_of}
+use Rattle.kmipa_check.specs.Grants.{GrantsOf}
 use Rattle.kmipa_check.specs.Steps.{StepOf, IsStep, step_of}
 use Rattle.kmipa_check.specs.Orders.{NamesAt, HasCall, NamesBefore, IsFormed, AreFormedBelow, GivenFault, Refuses, TurnFault, unknown, twice, unfit, in_turn, AreFormed, OrderFault}
 use Rattle.kmipa_check.specs.Numbers.{place_in, IsFirst, StandsFirst, Indexes, is_noted}
@@ -20,7 +21,7 @@ use Rattle.kmipa_check.specs.Ordering.{TurnRefused, fault_at}
 use Rattle.kmipa_check.proofs.PlaceLemmas.{below_suc, mapped_at, mapped_from, contains_at, at_contains, get_at, pushed_at, some_at, at_within}
 
 -- one turn, by where its number first stands among the calls and among the turns
-module _ (calls : List Call) (turns : List Turn) (known named : FirstPlaces) (knows : Indexes (map (λ (c : Call). Some c.number) calls) known)
+module _ (g : GrantsOf) (calls : List Call) (turns : List Turn) (known named : FirstPlaces) (knows : Indexes (map (λ (c : Call). Some c.number) calls) known)
     (names : Indexes (map (λ (t : Turn). Some t.call) turns) named) (place : ℕ) (turn : Turn) (below : place < length turns) (is : turn ≡ get_or turns place turn) where
   names_at : NamesAt (map turn_of turns) place turn.call
   names_at = (turn_of turn, mapped_at turn_of turns place turn below is, refl)
@@ -35,7 +36,7 @@ module _ (calls : List Call) (turns : List Turn) (known named : FirstPlaces) (kn
       let e : m.0.call ≡ number = ap (λ (t : TurnOf). t.call) m.2 ∙ at.2 in
       get_at (λ (t : Turn). Some t.call) turns other m.0 m.1 ∙ ap (λ (z : ℤ). Some (Some z)) e
 
-  pub turn_unknown : place_in known turn.call ≡ None → TurnFault (map call_of calls) (map turn_of turns) place UnknownCall
+  pub turn_unknown : place_in known turn.call ≡ None → TurnFault g (map call_of calls) (map turn_of turns) place UnknownCall
   turn_unknown none = unknown turn.call names_at (λ has. no_call has) refl
     where
       no_call : HasCall (map call_of calls) turn.call → ⊥
@@ -63,7 +64,7 @@ module _ (calls : List Call) (turns : List Turn) (known named : FirstPlaces) (kn
         let e : m.0.number ≡ turn.call = cc in
         (call_of m.0, contains_at (map call_of calls) at (call_of m.0) (get_at call_of calls at m.0 m.1), e)
 
-    pub turn_twice : is_noted (place_in named turn.call) place ≡ false → TurnFault (map call_of calls) (map turn_of turns) place Twice
+    pub turn_twice : is_noted (place_in named turn.call) place ≡ false → TurnFault g (map call_of calls) (map turn_of turns) place Twice
     turn_twice not = twice turn.call names_at has_call (by (place_in named turn.call) (names turn.call) not) refl
       where
         by : (v : Option ℕ) → StandsFirst (map (λ (t : Turn). Some t.call) turns) (length (map (λ (t : Turn). Some t.call) turns)) turn.call v → is_noted v place ≡ false
@@ -100,11 +101,11 @@ module _ (calls : List Call) (turns : List Turn) (known named : FirstPlaces) (kn
       known_call : Contains (map call_of calls) (call_of call)
       known_call = contains_at (map call_of calls) at (call_of call) (mapped_at call_of calls at call call_within there)
 
-      turn_unfit : is_noted (place_in named turn.call) place ≡ true → (kind : WitnessKind) → GivenFault (call_of call) (turn_of turn) kind → TurnFault (map call_of calls) (map turn_of turns) place kind
+      turn_unfit : is_noted (place_in named turn.call) place ≡ true → (kind : WitnessKind) → GivenFault g (call_of call) (turn_of turn) kind → TurnFault g (map call_of calls) (map turn_of turns) place kind
       turn_unfit here_first kind fault = unfit (call_of call) (turn_of turn) (mapped_at turn_of turns place turn below is) (sym its_number) known_call (first_named here_first) fault
 
-      turn_formed : is_noted (place_in named turn.call) place ≡ true → (step : StepOf) → IsStep (call_of call) (turn_of turn) step
-          → IsFormed (map call_of calls) (map turn_of turns) place step
+      turn_formed : is_noted (place_in named turn.call) place ≡ true → (step : StepOf) → IsStep g (call_of call) (turn_of turn) step
+          → IsFormed g (map call_of calls) (map turn_of turns) place step
       turn_formed here_first step made = record {
         turn = turn_of turn;
         there = mapped_at turn_of turns place turn below is;
@@ -116,47 +117,47 @@ module _ (calls : List Call) (turns : List Turn) (known named : FirstPlaces) (kn
 
       -- the step that the turn makes with the call, or what it comes to
       pub turn_reported : is_noted (place_in named turn.call) place ≡ true → (result : Result Step StepFault)
-          → (turn.call ≡ call.number → MatchResult result (λ (step : Step). IsStep (call_of call) (turn_of turn) (step_of step)) (Refuses (call_of call) (turn_of turn)))
-          → MatchResult result (λ (step : Step). IsFormed (map call_of calls) (map turn_of turns) place (step_of step)) (TurnRefused (map call_of calls) (map turn_of turns) place)
+          → (turn.call ≡ call.number → MatchResult result (λ (step : Step). IsStep g (call_of call) (turn_of turn) (step_of step)) (Refuses g (call_of call) (turn_of turn)))
+          → MatchResult result (λ (step : Step). IsFormed g (map call_of calls) (map turn_of turns) place (step_of step)) (TurnRefused g (map call_of calls) (map turn_of turns) place)
       turn_reported here_first (Ok step) reported = turn_formed here_first (step_of step) (reported (sym its_number))
       turn_reported here_first (Err (Unfit kind)) reported = turn_unfit here_first kind (reported (sym its_number))
       turn_reported here_first (Err Memory) reported = tt
 
 -- one turn more
-pub formed_none : (calls : List CallOf) (turns : List TurnOf) → AreFormed calls turns 0 []
-formed_none calls turns = record { counted = refl; each = λ place s at. absurd cc }
+pub formed_none : (g : GrantsOf) (calls : List CallOf) (turns : List TurnOf) → AreFormed g calls turns 0 []
+formed_none g calls turns = record { counted = refl; each = λ place s at. absurd cc }
 
-pub formed_more : (calls : List CallOf) (turns : List TurnOf) (count : ℕ) (steps : List StepOf) (step : StepOf) → AreFormed calls turns count steps → IsFormed calls turns count step
-    → AreFormed calls turns (count + 1) (steps ++ step ∷ [])
-formed_more calls turns count steps step f here = record {
+pub formed_more : (g : GrantsOf) (calls : List CallOf) (turns : List TurnOf) (count : ℕ) (steps : List StepOf) (step : StepOf) → AreFormed g calls turns count steps → IsFormed g calls turns count step
+    → AreFormed g calls turns (count + 1) (steps ++ step ∷ [])
+formed_more g calls turns count steps step f here = record {
   counted = omega (arith, f.counted, length-append steps (step ∷ []));
   each = λ place s at. by place s (pushed_at steps step place s at);
 }
   where
-    by : (place : ℕ) (s : StepOf) → (slice_get steps place ≡ Some s) ⊎ ((place ≡ length steps) × (step ≡ s)) → IsFormed calls turns place s
+    by : (place : ℕ) (s : StepOf) → (slice_get steps place ≡ Some s) ⊎ ((place ≡ length steps) × (step ≡ s)) → IsFormed g calls turns place s
     by place s (inl at) = f.each place s at
     by place s (inr p) =
-        let P : ℕ → Type 0 = λ t. IsFormed calls turns t s in
-        let Q : StepOf → Type 0 = λ x. IsFormed calls turns count x in
+        let P : ℕ → Type 0 = λ t. IsFormed g calls turns t s in
+        let Q : StepOf → Type 0 = λ x. IsFormed g calls turns count x in
         subst P (sym (p.0 ∙ f.counted)) (subst Q p.1 here)
 
-pub formed_below : (calls : List CallOf) (turns : List TurnOf) (count : ℕ) (steps : List StepOf) → AreFormed calls turns count steps → AreFormedBelow calls turns count
-formed_below calls turns count steps f = λ place below. at place (some_at steps place (omega (arith, below, f.counted)))
+pub formed_below : (g : GrantsOf) (calls : List CallOf) (turns : List TurnOf) (count : ℕ) (steps : List StepOf) → AreFormed g calls turns count steps → AreFormedBelow g calls turns count
+formed_below g calls turns count steps f = λ place below. at place (some_at steps place (omega (arith, below, f.counted)))
   where
-    at : (place : ℕ) → (s : StepOf) × (slice_get steps place ≡ Some s) → (s : StepOf) × IsFormed calls turns place s
+    at : (place : ℕ) → (s : StepOf) × (slice_get steps place ≡ Some s) → (s : StepOf) × IsFormed g calls turns place s
     at place s = (s.0, f.each place s.0 s.1)
 
 -- the fault of a turn is one of the order
-pub fault_reported : (calls : List CallOf) (turns : List TurnOf) (place : ℕ) (fault : StepFault) → AreFormedBelow calls turns place → TurnRefused calls turns place fault
-    → OrderFault calls turns (fault_at place fault)
-fault_reported calls turns place (Unfit kind) below refused = in_turn place below refused refl
-fault_reported calls turns place Memory below refused = tt
+pub fault_reported : (g : GrantsOf) (calls : List CallOf) (turns : List TurnOf) (place : ℕ) (fault : StepFault) → AreFormedBelow g calls turns place → TurnRefused g calls turns place fault
+    → OrderFault g calls turns (fault_at place fault)
+fault_reported g calls turns place (Unfit kind) below refused = in_turn place below refused refl
+fault_reported g calls turns place Memory below refused = tt
 
 -- after the last turn all of them are formed
-pub formed_whole : (calls : List CallOf) (turns : List Turn) (count : ℕ) (steps : List StepOf) → AreFormed calls (map turn_of turns) count steps → length turns ≤ count
-    → AreFormed calls (map turn_of turns) (length turns) steps
-formed_whole calls turns count steps f past =
-    let P : ℕ → Type 0 = λ n. AreFormed calls (map turn_of turns) n steps in
+pub formed_whole : (g : GrantsOf) (calls : List CallOf) (turns : List Turn) (count : ℕ) (steps : List StepOf) → AreFormed g calls (map turn_of turns) count steps → length turns ≤ count
+    → AreFormed g calls (map turn_of turns) (length turns) steps
+formed_whole g calls turns count steps f past =
+    let P : ℕ → Type 0 = λ n. AreFormed g calls (map turn_of turns) n steps in
     subst P (sym (same (below_suc (length turns) count (omega (arith, past))))) f
   where
     none_more : length turns < count → ⊥

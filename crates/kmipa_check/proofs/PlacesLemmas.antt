@@ -14,6 +14,8 @@ use Rattle.kmipa_check.specs.declared.fault.WitnessKind.TheVariants.{OrderForm}
 use Rattle.kmipa_check.specs.Calls.{CallOf}
 use Rattle.kmipa_check.specs.Fills.{IsFilledAt, stays, put_in, IsFilled}
 use Rattle.kmipa_check.specs.Places.{place_numbers, GivesPlaces, WantsOrder, MayBeTaken, PlacesFault, unwanted, disordered}
+use Rattle.kmipa_check.specs.Grants.{GrantsOf}
+use Rattle.kmipa_check.specs.Moments.{at_moment}
 use Rattle.kmipa_check.specs.Steps.{StepOf, IsStep}
 use Rattle.kmipa_check.proofs.PlaceLemmas.{some_at, at_within}
 use Rattle.kmipa_check.proofs.RunLemmas.{take_next}
@@ -176,8 +178,19 @@ pub may_take : (request : RequestOf) (response : ResponseOf) (places : Option (L
 may_take request response None taken = tt
 may_take request response (Some places) taken = (taken.0.0, taken.0.1, taken.1.1)
 
+-- a response is a refusal at any moment or at none
+pub refused_at : (response : ResponseOf) (moment : ℤ) → RefusesMessage (at_moment response moment) → RefusesMessage response
+refused_at response moment r = record { answer = r.answer; alone = r.alone; failed = r.failed; unnamed = r.unnamed }
+
+-- whatever the moment
+taken_at : (request : RequestOf) (response : ResponseOf) (moment : ℤ) (places : Option (List ℕ)) → MayBeTaken request response places → MayBeTaken request (at_moment response moment) places
+taken_at request response moment None taken = tt
+taken_at request response moment (Some places) taken =
+    let order = taken.1.1 in
+    ((taken.0.0, λ r. taken.0.1 (refused_at response moment r)), (taken.1.0, record { answered = order.answered; all = order.all; once = order.once; last = order.last }))
+
 -- the items of a step may be taken in its order
-pub step_taken : (c : CallOf) (t : TurnOf) (s : StepOf) → IsStep c t s → MayBeTaken s.request s.response s.places
-step_taken c t s i =
+pub step_taken : (g : GrantsOf) (c : CallOf) (t : TurnOf) (s : StepOf) → IsStep g c t s → MayBeTaken s.request s.response s.places
+step_taken g c t s i =
     let P : StepOf → Type 0 = λ x. MayBeTaken x.request x.response x.places in
-    subst P (sym i.is) (places_kept c.request i.response t.fills i.full i.filled i.places i.taken)
+    subst P (sym i.is) (taken_at c.request i.full i.moment i.places (places_kept c.request i.response t.fills i.full i.filled i.places i.taken))

@@ -1,11 +1,14 @@
 -- The step of a plain call.
-use Rattle.std.proofs.Common.{◌≡◌, ℕ, List, Option, Some, None, refl, ap, ◌∙◌, subst}
+use Rattle.std.proofs.Common.{◌≡◌, ℕ, ℤ, pos, ◌+ℤ◌, ◌≤ℤ◌, List, Option, Some, None, refl, sym, ap, ◌∙◌, subst, arith}
+use Rattle.std.proofs.lemmas.Int.{ints}
 use Rattle.kmipa_record.specs.Witnesses.{TurnOf}
 use Rattle.kmipa_msgs.specs.Messages.{ResponseOf}
 use Rattle.kmipa_check.specs.Calls.{CallOf}
 use Rattle.kmipa_check.specs.Fills.{IsFilled}
+use Rattle.kmipa_check.specs.Grants.{GrantsOf, GrantsNothing}
+use Rattle.kmipa_check.specs.Moments.{IsMoment, at_moment}
 use Rattle.kmipa_check.specs.Places.{MayBeTaken}
-use Rattle.kmipa_check.specs.Steps.{IsAnswered, recorded, given, step_along, step_with}
+use Rattle.kmipa_check.specs.Steps.{IsAnswered, recorded, given, step_at, step_with}
 use Rattle.kmipa_check.specs.Plain.{IsPlainCall, PlainCallHasOneStep, PlainCallIsTakenBare}
 use Rattle.kmipa_check.proofs.FillLemmas.{filled_itself, filled_same}
 
@@ -19,22 +22,39 @@ its_places : (c : CallOf) (response other : ResponseOf) (places : Option (List �
 its_places c response other None plain taken = refl
 its_places c response other (Some places) plain taken = let a = plain.ordered in let b = taken.0.0 in cc
 
+-- where nothing is granted, it is taken at its Time Stamp
+pub its_moment : (g : GrantsOf) (stamp : ℤ) (told : Option ℤ) (moment : ℤ) → GrantsNothing g → IsMoment g stamp told moment → moment ≡ stamp
+its_moment g stamp None moment nothing timed = timed
+its_moment g stamp (Some told) moment nothing timed = timed.0 ∙ same (subst P nothing timed.1)
+  where
+    P : ℤ → Type 0
+    P tolerance = (told ≤ℤ (stamp +ℤ tolerance)) × (stamp ≤ℤ (told +ℤ tolerance))
+
+    same : P (pos 0) → told ≡ stamp
+    same h = omega (arith, ints, h.0, h.1)
+
 pub plain_call_has_one_step_lem : PlainCallHasOneStep
-plain_call_has_one_step_lem c response t s plain step =
+plain_call_has_one_step_lem g c response t s nothing plain step =
     let same = its_response c response t step.response plain.given step.answered in
     let P : ResponseOf → Type 0 = λ r. IsFilled c.request r t.fills step.full in
-    step.is ∙ ap (step_along c step.full) (its_places c response step.response step.places plain step.taken)
-    ∙ ap (step_with c) (filled_same c.request response t.fills step.full plain.complete (subst P same step.filled))
+    let full = filled_same c.request response t.fills step.full plain.complete (subst P same step.filled) in
+    let moment = its_moment g step.response.stamp t.moment step.moment nothing step.timed ∙ ap (λ (r : ResponseOf). r.stamp) same in
+    step.is ∙ ap (step_at c step.full step.moment) (its_places c response step.response step.places plain step.taken)
+    ∙ ap (λ (r : ResponseOf). step_at c r step.moment None) full ∙ ap (λ (m : ℤ). step_at c response m None) moment
 
 pub plain_call_is_taken_bare_lem : PlainCallIsTakenBare
-plain_call_is_taken_bare_lem c response plain = record {
+plain_call_is_taken_bare_lem g c response plain = record {
   named = refl;
   response = response;
   answered = recorded plain.given refl;
+  moment = response.stamp;
+  timed = refl;
   places = None;
   ordered = refl;
   taken = tt;
   full = response;
   filled = filled_itself c.request response plain.complete;
+  no_birth = refl;
+  no_aside = refl;
   is = refl;
 }

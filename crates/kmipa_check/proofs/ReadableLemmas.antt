@@ -26,6 +26,7 @@ use Rattle.kmipa_record.specs.Marks.{MarkOf}
 use Rattle.kmipa_record.specs.Witnesses.{FillOf, TurnOf}
 use Rattle.kmipa_check.specs.Calls.{CallOf, AreResponse, IsEnded, has_ended, is_open, IsRecorded}
 use Rattle.kmipa_check.specs.Fills.{SaysFill, with_payload, IsFilledAt, stays, put_in, IsFilled}
+use Rattle.kmipa_check.specs.Grants.{GrantsOf}
 use Rattle.kmipa_check.specs.Steps.{StepOf, IsAnswered, recorded, given, IsStep}
 use Rattle.kmipa_check.proofs.FillLemmas.{pair_left, pair_right}
 use Rattle.kmipa_check.proofs.FillingLemmas.{is_wanted_here}
@@ -169,8 +170,8 @@ said_by marks c t response (has_ended e bytes x h says ends is) (recorded had un
     let P : ResponseOf → Type 0 = λ y. AreResponse c.request bytes y in
     (bytes, subst P same says)
 
-pub step_readable : (marks : List MarkOf) (c : CallOf) (t : TurnOf) (s : StepOf) → IsRecorded marks c → IsStep c t s → IsReadableCall s.request s.response
-step_readable marks c t s r i =
+pub step_readable : (g : GrantsOf) (marks : List MarkOf) (c : CallOf) (t : TurnOf) (s : StepOf) → IsRecorded marks c → IsStep g c t s → IsReadableCall s.request s.response
+step_readable g marks c t s r i =
     let b = said_by marks c t i.response r.ended i.answered in
     let Q : StepOf → Type 0 = λ x. IsReadableCall x.request x.response in
-    subst Q (sym i.is) (call_readable c.request b.0 i.response b.1 t.fills i.full i.filled)
+    subst Q (sym i.is) (λ unrefused. call_readable c.request b.0 i.response b.1 t.fills i.full i.filled (λ r. unrefused (record { answer = r.answer; alone = r.alone; failed = r.failed; unnamed = r.unnamed })))

@@ -20,6 +20,7 @@ use Rattle.kmipa_batch.specs.declared.refusal.CallRefusal.TheVariants.{Impossibl
 use Rattle.kmipa_check.specs.Calls.{CallOf, AreCalls}
 use Rattle.kmipa_check.specs.Steps.{StepOf, order_of}
 use Rattle.kmipa_check.specs.Runs.{Linked, rules_declared, Before, IsPlaced, TakeEachOnce, IsAccepted}
+use Rattle.kmipa_check.specs.Grants.{grants_declared}
 use Rattle.kmipa_check.specs.Orders.{IsOrder}
 use Rattle.kmipa_check.specs.Verdicts.{IsLate, RunsBack, IsPlacedAt, ArePlaced, ArePossible, AreKnown, RefusedItem, late, runs_back, RefusedAt, in_place, in_item, IsRefused, GoesUpTo}
 use Rattle.kmipa_check.specs.declared.verdict.Refused.{Refused}
@@ -166,7 +167,7 @@ is_placed order placed = record { kept = all_kept order placed; stamped = rises 
 
 -- a replay to the end is an accepted run by its steps
 pub replayed_run : (marks : List MarkOf) (declared : DeclarationOf) (turns : List TurnOf) (calls : List CallOf) (order : List StepOf) (m : Meaning) → AreCalls marks calls
-    → IsOrder calls turns order → TakeEachOnce calls order → Replayed declared order (length order) m → (a : IsAccepted marks declared turns) × (a.steps ≡ order)
+    → IsOrder (grants_declared declared) calls turns order → TakeEachOnce (grants_declared declared) calls order → Replayed declared order (length order) m → (a : IsAccepted marks declared turns) × (a.steps ≡ order)
 replayed_run marks declared turns calls order m are o once r =
     let c = r.sound.choice in
     let f = r.known.sound c.0 c.1 in
@@ -184,5 +185,5 @@ replayed_run marks declared turns calls order m are o once r =
     )
 
 pub replayed_accepts : (marks : List MarkOf) (declared : DeclarationOf) (turns : List TurnOf) (calls : List CallOf) (order : List StepOf) (m : Meaning) → AreCalls marks calls
-    → IsOrder calls turns order → TakeEachOnce calls order → Replayed declared order (length order) m → IsAccepted marks declared turns
+    → IsOrder (grants_declared declared) calls turns order → TakeEachOnce (grants_declared declared) calls order → Replayed declared order (length order) m → IsAccepted marks declared turns
 replayed_accepts marks declared turns calls order m are o once r = (replayed_run marks declared turns calls order m are o once r).0

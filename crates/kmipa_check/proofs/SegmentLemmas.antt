@@ -7,6 +7,7 @@ use Rattle.kmipa_record.specs.Declarations.{DeclarationOf, declaration_of}
 use Rattle.kmipa_record.specs.Witnesses.{TurnOf}
 use Rattle.kmipa_msgs.specs.Messages.{RulesOf}
 use Rattle.kmipa_check.specs.Calls.{CallOf, AreCalls}
+use Rattle.kmipa_check.specs.Grants.{GrantsOf, grants_declared}
 use Rattle.kmipa_check.specs.Steps.{StepOf}
 use Rattle.kmipa_check.specs.Orders.{IsOrder}
 use Rattle.kmipa_check.specs.Runs.{Linked, rules_declared}
@@ -50,13 +51,15 @@ module _ (first second : List MarkOf) (turns more : List TurnOf) (declared betwe
   segments_join_lem left until k =
       let moved_steps = map (step_moved (length first)) k.run.steps in
       let P : Option ℤ → Type 0 = λ o. last_stamp middle k.run.steps ≡ last_stamp o k.run.steps in
+      let G : GrantsOf → Type 0 = λ x. IsOrder x k.run.calls more k.run.steps in
+      let own : IsOrder (grants_declared declared) k.run.calls more k.run.steps = subst G l.run.leaves.grants k.run.order in
       record {
         run = record {
           calls = l.run.calls ++ map (moved (length first)) k.run.calls;
           are = calls_join first second rf rs apart l.run.calls k.run.calls l.run.are k.run.are;
           steps = l.run.steps ++ map (step_moved (length first)) k.run.steps;
-          order = order_join first second rf rs apart l.run.calls k.run.calls turns more l.run.steps k.run.steps l.run.are k.run.are l.run.order k.run.order;
-          placed = placed_join first second rf rs apart l.run.calls k.run.calls turns more l.run.steps k.run.steps l.run.are k.run.are l.run.order k.run.order l.run.placed k.run.placed
+          order = order_join first second rf rs apart (grants_declared declared) l.run.calls k.run.calls turns more l.run.steps k.run.steps l.run.are k.run.are l.run.order own;
+          placed = placed_join first second rf rs apart (grants_declared declared) l.run.calls k.run.calls turns more l.run.steps k.run.steps l.run.are k.run.are l.run.order own l.run.placed k.run.placed
               (rise_across since l.run.steps k.run.steps (ordered Rises l.run.steps l.run.placed.stamped) (from_last k.run.steps k.since_then));
           leaves = left_join (length first) declared between left l.run.steps k.run.steps l.run.leaves k.run.leaves;
         };
@@ -68,7 +71,9 @@ module _ (first second : List MarkOf) (turns more : List TurnOf) (declared betwe
   accepted_behind_lem b =
       let k = b.accepted in
       let calls = l.run.calls ++ map (moved (length first)) k.calls in
-      let order = order_join first second rf rs apart l.run.calls k.calls turns more l.run.steps k.steps l.run.are k.are l.run.order k.order in
+      let G : GrantsOf → Type 0 = λ x. IsOrder x k.calls more k.steps in
+      let own : IsOrder (grants_declared declared) k.calls more k.steps = subst G l.run.leaves.grants k.order in
+      let order = order_join first second rf rs apart (grants_declared declared) l.run.calls k.calls turns more l.run.steps k.steps l.run.are k.are l.run.order own in
       let e = (l.run.leaves.exactly k.start).0 k.described in
       let P : RulesOf → Type 0 = λ r. Linked r k.start k.steps k.run.last in
       record {
@@ -80,8 +85,8 @@ module _ (first second : List MarkOf) (turns more : List TurnOf) (declared betwe
           start = e.0;
           described = e.1;
           run = record {
-            once = order_takes calls (turns ++ more) (l.run.steps ++ map (step_moved (length first)) k.steps) order;
-            placed = placed_join first second rf rs apart l.run.calls k.calls turns more l.run.steps k.steps l.run.are k.are l.run.order k.order l.run.placed k.run.placed
+            once = order_takes (grants_declared declared) calls (turns ++ more) (l.run.steps ++ map (step_moved (length first)) k.steps) order;
+            placed = placed_join first second rf rs apart (grants_declared declared) l.run.calls k.calls turns more l.run.steps k.steps l.run.are k.are l.run.order own l.run.placed k.run.placed
                 (rise_across since l.run.steps k.steps (ordered Rises l.run.steps l.run.placed.stamped) (from_last k.steps b.since_then));
             last = k.run.last;
             linked = linked_join (rules_declared declared) e.0 l.run.steps (map (step_moved (length first)) k.steps) k.start k.run.last e.2
@@ -118,10 +123,10 @@ fault_told declared since order (Outside number side at) h = absurd h
 fault_told declared since order (Witness f) h = absurd h
 
 module _ (marks : List MarkOf) (declared : DeclarationOf) (since : Option ℤ) (turns : List TurnOf) where
-  pub segment_reported : (calls : List CallOf) (order : List StepOf) (result : Result Verdict CheckFault) → AreCalls marks calls → IsOrder calls turns order → TellsSegment declared since order result
+  pub segment_reported : (calls : List CallOf) (order : List StepOf) (result : Result Verdict CheckFault) → AreCalls marks calls → IsOrder (grants_declared declared) calls turns order → TellsSegment declared since order result
       → ChecksSince marks declared since turns result
   segment_reported calls order (Ok Yes) are o h =
-      let a = replayed_run marks declared turns calls order h.ledger are o (order_takes calls turns order o) h.replayed in
+      let a = replayed_run marks declared turns calls order h.ledger are o (order_takes (grants_declared declared) calls turns order o) h.replayed in
       let P : List StepOf → Type 0 = λ ss. AreSince since ss in
       record { accepted = a.0; since_then = subst P (sym a.1) h.since_then }
   segment_reported calls order (Ok (No refused)) are o h = (calls, are, (order, o, h))
@@ -129,7 +134,7 @@ module _ (marks : List MarkOf) (declared : DeclarationOf) (since : Option ℤ) (
   segment_reported calls order (Err (Outside number side at)) are o h = absurd h
   segment_reported calls order (Err (Witness f)) are o h = absurd h
 
-  leads : (calls : List CallOf) (order : List StepOf) (left : DeclarationOf) (until : Option ℤ) → AreCalls marks calls → IsOrder calls turns order → IsLeftSince declared since order left until
+  leads : (calls : List CallOf) (order : List StepOf) (left : DeclarationOf) (until : Option ℤ) → AreCalls marks calls → IsOrder (grants_declared declared) calls turns order → IsLeftSince declared since order left until
       → Leads declared since marks turns left until
   leads calls order left until are o h =
       let l = replayed_leaves marks declared turns calls order h.behind.ledger left are o h.behind.replayed h.behind.is in
@@ -141,7 +146,7 @@ module _ (marks : List MarkOf) (declared : DeclarationOf) (since : Option ℤ) (
   abbrev pub LeftTold : List StepOf → Result Checked CheckFault → Type 0
   LeftTold order result = IfOk result (λ checked. LeavesAtYes checked.verdict checked.left (λ left. IsLeftSince declared since order (declaration_of left.declaration) left.until))
 
-  pub left_reported : (calls : List CallOf) (order : List StepOf) (result : Result Checked CheckFault) → AreCalls marks calls → IsOrder calls turns order → LeftTold order result
+  pub left_reported : (calls : List CallOf) (order : List StepOf) (result : Result Checked CheckFault) → AreCalls marks calls → IsOrder (grants_declared declared) calls turns order → LeftTold order result
       → IfOk result (λ checked. LeavesAtYes checked.verdict checked.left (λ left. Leads declared since marks turns (declaration_of left.declaration) left.until))
   left_reported calls order (Err fault) are o h = tt
   left_reported calls order (Ok checked) are o h =
@@ -159,7 +164,7 @@ module _ (marks : List MarkOf) (declared : DeclarationOf) (since : Option ℤ) (
         let since_then : AreSince (Some b.moment) order = subst Q b.is (subst P (sym same) a.since_then) in
         clash_ℤ b.below (since_then h.first (contains_at order 0 h.first b.there))
 
-    refused_since : (v : Refused) (order : List StepOf) (calls : List CallOf) → AreCalls marks calls → IsOrder calls turns order → order ≡ a.accepted.steps → IsRefusedSince declared since order v → ⊥
+    refused_since : (v : Refused) (order : List StepOf) (calls : List CallOf) → AreCalls marks calls → IsOrder (grants_declared declared) calls turns order → order ≡ a.accepted.steps → IsRefusedSince declared since order v → ⊥
     refused_since v order calls are o same (at_first h) = not_first order v same h
     refused_since v order calls are o same (as_ever within h) =
         elim (accepted_is_yes_lem marks declared turns r a.accepted (Ok (No v)) (calls, are, (order, o, h))) [
@@ -172,6 +177,6 @@ module _ (marks : List MarkOf) (declared : DeclarationOf) (since : Option ℤ) (
     accepted_since_lem (Err fault) h = accepted_is_yes_lem marks declared turns r a.accepted (Err fault) h
     accepted_since_lem (Ok (No v)) h =
         let e : h.0 ≡ a.accepted.calls = same_calls marks h.0 a.accepted.calls r h.1 a.accepted.are in
-        let P : List CallOf → Type 0 = λ calls. IsOrder calls turns h.2.0 in
-        let same = one_order_lem a.accepted.calls turns h.2.0 a.accepted.steps (once_pairs (map number_of a.accepted.calls) (calls_once marks a.accepted.calls r a.accepted.are)) (subst P e h.2.1) a.accepted.order in
+        let P : List CallOf → Type 0 = λ calls. IsOrder (grants_declared declared) calls turns h.2.0 in
+        let same = one_order_lem (grants_declared declared) a.accepted.calls turns h.2.0 a.accepted.steps (once_pairs (map number_of a.accepted.calls) (calls_once marks a.accepted.calls r a.accepted.are)) (subst P e h.2.1) a.accepted.order in
         absurd (refused_since v h.2.0 h.0 h.1 h.2.1 same h.2.2)

@@ -9,6 +9,7 @@ use Rattle.kmipa_record.specs.Witnesses.{TurnOf}
 use Rattle.kmipa_record.proofs.MarkLemmas.{begun-append}
 use Rattle.kmipa_msgs.specs.Messages.{RulesOf, ResponseOf}
 use Rattle.kmipa_check.specs.Calls.{CallOf, AreCalls, IsEnded, has_ended, is_open, IsRecorded}
+use Rattle.kmipa_check.specs.Grants.{GrantsOf, grants_declared}
 use Rattle.kmipa_check.specs.Steps.{StepOf, IsAnswered, recorded, given, IsStep}
 use Rattle.kmipa_check.specs.Orders.{IsNamed, IsFormed, IsOrder}
 use Rattle.kmipa_check.specs.Runs.{EndsAhead, Before, IsPlaced, Linked, IsAccepted, rules_declared}
@@ -61,22 +62,26 @@ abbrev back : ℕ → CallOf → CallOf
 back n c = record { number = c.number; begin = c.begin - n; end = option_map (λ (e : ℕ). e - n) c.end; request = c.request; response = c.response }
 
 abbrev pub step_back : ℕ → StepOf → StepOf
-step_back n s = record { number = s.number; begin = s.begin - n; end = option_map (λ (e : ℕ). e - n) s.end; request = s.request; response = s.response; places = s.places }
+step_back n s = record { number = s.number; begin = s.begin - n; end = option_map (λ (e : ℕ). e - n) s.end; request = s.request; response = s.response; stamp = s.stamp; places = s.places }
 
 end_back : (n : ℕ) (o : Option ℕ) (e : ℕ) → option_map (λ (x : ℕ). x - n) o ≡ Some e → (x : ℕ) × (o ≡ Some x)
 end_back n None e is = absurd cc
 end_back n (Some x) e is = (x, refl)
 
-step_backs : (n : ℕ) (c : CallOf) (t : TurnOf) (s : StepOf) → IsStep c t s → IsStep (back n c) t (step_back n s)
-step_backs n c t s i = record {
+step_backs : (g : GrantsOf) (n : ℕ) (c : CallOf) (t : TurnOf) (s : StepOf) → IsStep g c t s → IsStep g (back n c) t (step_back n s)
+step_backs g n c t s i = record {
   named = i.named;
   response = i.response;
   answered = by i.response i.answered;
+  moment = i.moment;
+  timed = i.timed;
   places = i.places;
   ordered = i.ordered;
   taken = i.taken;
   full = i.full;
   filled = i.filled;
+  no_birth = i.no_birth;
+  no_aside = i.no_aside;
   is = ap (step_back n) i.is;
 }
   where
@@ -134,6 +139,9 @@ module _ (first second : List MarkOf) (rf : AreRecorded first) (rs : AreRecorded
       by (is_open none close is) = is_open (λ e a h. none (n + e) a (at_back first second e (ends c.number a) h)) (ap (option_map (λ (x : ℕ). x - n)) close) is
 
   module _ (turns more : List TurnOf) (declared between : DeclarationOf) (l : LeavesDeclaration first declared turns between) (a : IsAccepted (first ++ second) declared (turns ++ more)) (only : NameOnly second more) where
+    abbrev g : GrantsOf
+    g = grants_declared declared
+
     -- the calls of both, cut
     abbrev cut_calls : CutList number_of a.calls (begun first) (begun second)
     cut_calls = cut_list number_of a.calls (begun first) (begun second) (a.are.numbers ∙ begun-append first second)
@@ -213,21 +221,21 @@ module _ (first second : List MarkOf) (rf : AreRecorded first) (rs : AreRecorded
             let here = subst P whole (at_front before behind i s at) in
             let f = a.order.formed i s here in
             let u = some_at l.steps i (omega (arith, slice_get_within before i s at, before_long, l.order.counted)) in
-            let g = l.order.formed i u.0 u.1 in
-            let there = at_front turns more i g.turn g.there in
+            let h = l.order.formed i u.0 u.1 in
+            let there = at_front turns more i h.turn h.there in
             let other = f.there in
-            let turn : f.turn ≡ g.turn = cc in
-            let number : f.call.number ≡ g.call.number = sym f.step.named ∙ ap (λ (t : TurnOf). t.call) turn ∙ g.step.named in
+            let turn : f.turn ≡ h.turn = cc in
+            let number : f.call.number ≡ h.call.number = sym f.step.named ∙ ap (λ (t : TurnOf). t.call) turn ∙ h.step.named in
             let Q : ℤ → Type 0 = λ z. Contains (begun first) z in
             let p = at_contains a.calls f.call f.known in
-            let q = at_contains l.calls g.call g.known in
-            let x = its_first f.call (subst Q (sym number) (call_begun first l.calls g.call l.are g.known)) (recorded_at (first ++ second) a.calls p.0 f.call a.are p.1) in
-            let call = same_recorded first f.call g.call rf x (recorded_at first l.calls q.0 g.call l.are q.1) number in
-            let S : CallOf → Type 0 = λ c. IsStep c f.turn s in
-            let T : TurnOf → Type 0 = λ t. IsStep g.call t s in
-            u.1 ∙ ap Some (one_step_lem g.call g.turn u.0 s g.step (subst T turn (subst S call f.step)))
+            let q = at_contains l.calls h.call h.known in
+            let x = its_first f.call (subst Q (sym number) (call_begun first l.calls h.call l.are h.known)) (recorded_at (first ++ second) a.calls p.0 f.call a.are p.1) in
+            let call = same_recorded first f.call h.call rf x (recorded_at first l.calls q.0 h.call l.are q.1) number in
+            let S : CallOf → Type 0 = λ c. IsStep g c f.turn s in
+            let T : TurnOf → Type 0 = λ t. IsStep g h.call t s in
+            u.1 ∙ ap Some (one_step_lem g h.call h.turn u.0 s h.step (subst T turn (subst S call f.step)))
 
-    formed_behind : (place : ℕ) (s : StepOf) → slice_get behind place ≡ Some s → IsFormed calls more place (step_back n s)
+    formed_behind : (place : ℕ) (s : StepOf) → slice_get behind place ≡ Some s → IsFormed g calls more place (step_back n s)
     formed_behind place s at =
         let f = a.order.formed (length turns + place) s (step_in place s at) in
         let there = at_behind turns more place f.turn f.there in
@@ -238,16 +246,16 @@ module _ (first second : List MarkOf) (rf : AreRecorded first) (rs : AreRecorded
           first = λ (earlier, below, (t, here, same)). f.first (length turns + earlier, omega (arith, below), (t, at_back turns more earlier t here, same));
           call = back n f.call;
           known = call_behind f.call f.known (subst P f.step.named (only f.turn (contains_at more place f.turn there)));
-          step = step_backs n f.call f.turn s f.step;
+          step = step_backs g n f.call f.turn s f.step;
         }
 
-    order_cut : IsOrder calls more steps
+    order_cut : IsOrder g calls more steps
     order_cut = record { counted = length-map behind (step_back n) ∙ behind_long; formed = formed; all = λ c end has is. by c end is (at_contains calls c has) }
       where
-        formed : (place : ℕ) (s : StepOf) → slice_get steps place ≡ Some s → IsFormed calls more place s
+        formed : (place : ℕ) (s : StepOf) → slice_get steps place ≡ Some s → IsFormed g calls more place s
         formed place s at =
             let m = mapped_from (step_back n) behind place s at in
-            let P : StepOf → Type 0 = λ x. IsFormed calls more place x in
+            let P : StepOf → Type 0 = λ x. IsFormed g calls more place x in
             subst P m.2 (formed_behind place m.0 m.1)
 
         by : (c : CallOf) (end : ℕ) → c.end ≡ Some end → (i : ℕ) × (slice_get calls i ≡ Some c) → IsNamed more c.number
@@ -257,7 +265,7 @@ module _ (first second : List MarkOf) (rf : AreRecorded first) (rs : AreRecorded
             let e = end_back n m.0.end end ended in
             let f = a.order.all m.0 e.0 (in_all i m.0 m.1).0 e.1 in
             elim (at_either turns more f.0 f.1.0 f.1.1) [
-              | inl p ↦ absurd (apart m.0.number (named_begun first l.calls turns l.steps f.0 m.0.number l.are l.order (f.1.0, p, f.1.2)) (back_begun i m.0 m.1))
+              | inl p ↦ absurd (apart m.0.number (named_begun g first l.calls turns l.steps f.0 m.0.number l.are l.order (f.1.0, p, f.1.2)) (back_begun i m.0 m.1))
               | inr p ↦ (p.0, (f.1.0, p.2, f.1.2 ∙ ap number_of m.2))
             ]
 
@@ -282,16 +290,18 @@ module _ (first second : List MarkOf) (rf : AreRecorded first) (rs : AreRecorded
         let P : List StepOf → Type 0 = λ ss. Linked (rules_declared declared) a.start ss a.run.last in
         let p = linked_split (rules_declared declared) a.start before behind a.run.last (subst P (sym whole) a.run.linked) in
         let Q : List StepOf → Type 0 = λ ss. Linked (rules_declared declared) a.start ss p.0 in
-        let R : RulesOf → Type 0 = λ r. Linked r p.0 behind a.run.last in (
+        let R : RulesOf → Type 0 = λ r. Linked r p.0 behind a.run.last in
+        let G : GrantsOf → Type 0 = λ x. IsOrder x calls more steps in
+        let order : IsOrder (grants_declared between) calls more steps = subst G (sym l.leaves.grants) order_cut in (
           record {
             calls = calls;
             are = calls_cut;
             steps = steps;
-            order = order_cut;
+            order = order;
             start = p.0;
             described = (l.leaves.exactly p.0).1 (a.start, a.described, subst Q before_same p.1);
             run = record {
-              once = order_takes calls more steps order_cut;
+              once = order_takes (grants_declared between) calls more steps order;
               placed = placed_cut;
               last = a.run.last;
               linked = linked_cut (rules_declared between) n p.0 behind a.run.last (subst R (sym l.leaves.rules) p.2);

@@ -29,6 +29,7 @@ use Rattle.kmipa_check.specs.declared.fault.CheckFault.TheVariants.{Outside}
 use Rattle.kmipa_check.specs.declared.fault.Side.{Side}
 use Rattle.kmipa_check.specs.declared.verdict.Refused.{Refused}
 use Rattle.kmipa_check.specs.declared.verdict.Verdict.TheVariants.{No}
+use Rattle.kmipa_check.specs.Grants.{GrantsOf, grants_declared}
 use Rattle.kmipa_check.specs.Orders.{IsOrder}
 use Rattle.kmipa_check.specs.Verdicts.{TellsVerdict}
 use Rattle.kmipa_check.proofs.PlaceLemmas.{apart, mapped_at, contains_at, at_contains, at_within, some_at}
@@ -254,8 +255,8 @@ none_given f (Some x) y e h = absurd cc
 -- ---- the call of a no
 
 -- an order names no call twice
-turns_once : (calls : List CallOf) (turns : List TurnOf) (order : List StepOf) → IsOrder calls turns order → AllPairs (λ (t u : TurnOf). t.call ≢ u.call) turns
-turns_once calls turns order o i j d before within same =
+turns_once : (g : GrantsOf) (calls : List CallOf) (turns : List TurnOf) (order : List StepOf) → IsOrder g calls turns order → AllPairs (λ (t u : TurnOf). t.call ≢ u.call) turns
+turns_once g calls turns order o i j d before within same =
     let s = some_at order j (omega (arith, within, o.counted)) in
     let f = o.formed j s.0 s.1 in
     let at = slice_get-get_or turns i d (omega (arith, before, within)) in
@@ -273,7 +274,7 @@ refused_answered marks declared turns r recorded_marks (calls, are, (order, is, 
     let P : CallOf → Type 0 = λ c. IsRecorded marks c in
     let made : refused.call.number ≡ formed.call.number = ap (λ (s : StepOf). s.number) formed.step.is in
     let number : formed.call.number ≡ r.call = sym made ∙ refused.number in
-    none recorded_marks (turns_once calls turns order is) formed.step.response.stamp
+    none recorded_marks (turns_once (grants_declared declared) calls turns order is) formed.step.response.stamp
     (by formed.call formed.turn formed.step.response (subst P known.2 (are.recorded known.0 formed.call known.1)) number
     (contains_at turns refused.turn formed.turn formed.there) (formed.step.named ∙ number) formed.step.answered)
   where

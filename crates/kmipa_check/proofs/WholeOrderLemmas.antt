@@ -17,17 +17,21 @@ use Rattle.kmipa_msgs.specs.declared.kind.OutsideKind.{OutsideKind}
 use Rattle.kmipa_msgs.specs.Messages.{ResponseOf}
 use Rattle.kmipa_msgs.specs.Responses.{SaysResponse, ResponseFault}
 use Rattle.kmipa_check.specs.Calls.{CallOf, AreResponse, AreOutside, call_of}
+use Rattle.kmipa_check.specs.Births.{BirthFault}
 use Rattle.kmipa_check.specs.Fills.{IsFilled, FillFault}
-use Rattle.kmipa_check.specs.Places.{PlacesFault}
-use Rattle.kmipa_check.specs.Steps.{StepOf, IsAnswered, recorded, given, IsStep, step_along}
+use Rattle.kmipa_check.specs.Grants.{GrantsOf}
+use Rattle.kmipa_check.specs.Moments.{IsMoment, IsUntimely}
+use Rattle.kmipa_check.specs.Places.{GivesPlaces, MayBeTaken, PlacesFault}
+use Rattle.kmipa_check.specs.Steps.{StepOf, IsAnswered, recorded, given, IsStep, step_at}
 use Rattle.kmipa_check.specs.Runs.{IsOfCalls, TakeEachOnce}
-use Rattle.kmipa_check.specs.Orders.{IsNamed, IsFormed, AreFormedBelow, IsOrder, IsAnswerFault, answered, unanswered, formless, GivenFault, unfit_answer, unfit_places, unfilled, WitnessFaultAt, left_out, AreFormed}
+use Rattle.kmipa_check.specs.Orders.{IsNamed, IsFormed, AreFormedBelow, IsOrder, IsAnswerFault, answered, unanswered, formless, GivenFault, unfit_answer, untimely, unfit_places, unfilled, unfit_births, unfit_asides, WitnessFaultAt, left_out, AreFormed}
 use Rattle.kmipa_check.specs.Numbers.{place_in, StandsFirst, Indexes}
 use Rattle.kmipa_check.specs.Ordering.{missing_or, first_missing}
 use Rattle.kmipa_check.proofs.PlaceLemmas.{mapped_from, contains_at, at_contains, same_elements, get_at, some_at}
 use Rattle.kmipa_check.proofs.MessageLemmas.{same_message, not_outside}
 use Rattle.kmipa_check.proofs.OnceLemmas.{IsOnce}
 use Rattle.kmipa_check.proofs.OrderLemmas.{formed_below}
+use Rattle.kmipa_check.proofs.BirthLemmas.{no_birth_fault, one_birth_fault}
 use Rattle.kmipa_check.proofs.FillLemmas.{one_filled, filled_right, one_fill_fault}
 use Rattle.kmipa_check.proofs.PlacesLemmas.{one_places, places_right, one_places_fault}
 
@@ -112,7 +116,7 @@ missing_none named (x ∷ calls) h place c end at ended =
     placed_case named x calls x.end (place_in named x.number) refl refl h (λ p d e f g k. missing_none named calls f p d e g k) place c end at ended
 
 -- what the places say of turns
-module _ (turns : List Turn) (named : FirstPlaces) (names : Indexes (map (λ (t : Turn). Some t.call) turns) named) where
+module _ (g : GrantsOf) (turns : List Turn) (named : FirstPlaces) (names : Indexes (map (λ (t : Turn). Some t.call) turns) named) where
   unnamed : (number : ℤ) → place_in named number ≡ None → IsNamed (map turn_of turns) number → ⊥
   unnamed number none (place, at) =
       let m = mapped_from turn_of turns place at.0 at.1 in
@@ -133,17 +137,17 @@ module _ (turns : List Turn) (named : FirstPlaces) (names : Indexes (map (λ (t 
   not_left_out number None is some out = some refl
   not_left_out number (Some q) is some out = out (is_named number q is)
 
-  pub left_out_reported : (calls : List CallOf) (steps : List StepOf) (number : ℤ) (at : ℕ) → AreFormed calls (map turn_of turns) (length turns) steps → first_missing named calls ≡ Some number
-      → number ≡ pos at → WitnessFaultAt calls (map turn_of turns) at LeftOut
+  pub left_out_reported : (calls : List CallOf) (steps : List StepOf) (number : ℤ) (at : ℕ) → AreFormed g calls (map turn_of turns) (length turns) steps → first_missing named calls ≡ Some number
+      → number ≡ pos at → WitnessFaultAt g calls (map turn_of turns) at LeftOut
   left_out_reported calls steps number at f missing is =
       let r = missing_is named calls number missing in
-      let P : ℕ → Type 0 = λ n. AreFormedBelow calls (map turn_of turns) n in
-      left_out r.place r.call (subst P (sym (length-map turns turn_of)) (formed_below calls (map turn_of turns) (length turns) steps f)) r.there
+      let P : ℕ → Type 0 = λ n. AreFormedBelow g calls (map turn_of turns) n in
+      left_out r.place r.call (subst P (sym (length-map turns turn_of)) (formed_below g calls (map turn_of turns) (length turns) steps f)) r.there
       (record { end = r.end; ended = r.ended; unnamed = unnamed r.call.number r.none })
       (λ other d below there out. not_left_out d.number (place_in named d.number) refl (r.earlier other d out.end below there out.ended) out.unnamed) (r.is ∙ is) refl
 
   -- where none is left out, the steps are those of the whole witness
-  pub order_reported : (calls : List CallOf) (steps : List StepOf) → AreFormed calls (map turn_of turns) (length turns) steps → first_missing named calls ≡ None → IsOrder calls (map turn_of turns) steps
+  pub order_reported : (calls : List CallOf) (steps : List StepOf) → AreFormed g calls (map turn_of turns) (length turns) steps → first_missing named calls ≡ None → IsOrder g calls (map turn_of turns) steps
   order_reported calls steps f missing = record {
     counted = f.counted ∙ sym (length-map turns turn_of);
     formed = f.each;
@@ -168,9 +172,9 @@ same_call (x ∷ calls) once (suc i) zero a b p q e =
 same_call (x ∷ calls) once (suc i) (suc j) a b p q e = same_call calls once.1 i j a b p q e
 
 -- an order takes each call once
-module _ (calls : List CallOf) (turns : List TurnOf) (steps : List StepOf) (o : IsOrder calls turns steps) where
+module _ (g : GrantsOf) (calls : List CallOf) (turns : List TurnOf) (steps : List StepOf) (o : IsOrder g calls turns steps) where
   -- a step's number is that of its turn
-  numbered : (place : ℕ) (s : StepOf) (f : IsFormed calls turns place s) → f.turn.call ≡ s.number
+  numbered : (place : ℕ) (s : StepOf) (f : IsFormed g calls turns place s) → f.turn.call ≡ s.number
   numbered place s f = f.step.named ∙ sym (ap (λ (x : StepOf). x.number) f.step.is)
 
   taken_once : AllPairs (λ (a b : StepOf). a.number ≢ b.number) steps
@@ -178,8 +182,8 @@ module _ (calls : List CallOf) (turns : List TurnOf) (steps : List StepOf) (o : 
       let p = slice_get-get_or steps i d (omega (arith, below, within)) in
       let q = slice_get-get_or steps j d within in
       let f = o.formed i (get_or steps i d) p in
-      let g = o.formed j (get_or steps j d) q in
-      g.first (i, below, (f.turn, f.there, numbered i (get_or steps i d) f ∙ same ∙ sym (numbered j (get_or steps j d) g)))
+      let h = o.formed j (get_or steps j d) q in
+      h.first (i, below, (f.turn, f.there, numbered i (get_or steps i d) f ∙ same ∙ sym (numbered j (get_or steps j d) h)))
 
   taken : (c : CallOf) → IsNamed turns c.number → (s : StepOf) × Contains steps s × (s.number ≡ c.number)
   taken c (place, (turn, there, named)) =
@@ -189,14 +193,14 @@ module _ (calls : List CallOf) (turns : List TurnOf) (steps : List StepOf) (o : 
       let same : f.turn ≡ turn = cc in
       (s.0, contains_at steps place s.0 s.1, sym (numbered place s.0 f) ∙ ap (λ (t : TurnOf). t.call) same ∙ named)
 
-  pub order_takes : TakeEachOnce calls steps
+  pub order_takes : TakeEachOnce g calls steps
   order_takes = record {
     of_calls = λ s has. by s (at_contains steps s has);
     once = taken_once;
     all = λ c end one ended. taken c (o.all c end one ended);
   }
     where
-      by : (s : StepOf) → (i : ℕ) × (slice_get steps i ≡ Some s) → IsOfCalls calls s
+      by : (s : StepOf) → (i : ℕ) × (slice_get steps i ≡ Some s) → IsOfCalls g calls s
       by s p = let f = o.formed p.0 s p.1 in (f.call, f.turn, f.known, f.step)
 
 -- a call has one response by a turn
@@ -236,59 +240,124 @@ one_answer_fault c t kind other (formless bytes i k unended some out is) (answer
 one_answer_fault c t kind other (formless bytes i k unended some out is) (unanswered lacks none same) = absurd cc
 one_answer_fault c t kind other (formless bytes i k unended some out is) (formless others j l lacks any outs same) = is ∙ sym same
 
+-- where a moment is told nothing is wrong with it
+moment_right : (g : GrantsOf) (stamp : ℤ) (told : Option ℤ) (moment : ℤ) → IsMoment g stamp told moment → IsUntimely g stamp told → ⊥
+moment_right g stamp None moment timed late = late
+moment_right g stamp (Some told) moment timed late = late timed.1
+
+-- a turn takes a call at one moment
+one_moment : (g : GrantsOf) (stamp : ℤ) (told : Option ℤ) (moment other : ℤ) → IsMoment g stamp told moment → IsMoment g stamp told other → moment ≡ other
+one_moment g stamp None moment other timed same = timed ∙ sym same
+one_moment g stamp (Some told) moment other timed same = timed.0 ∙ sym same.0
+
+-- where a test is passed, whatever the response is called, its fault isn't told
+module _ (g : GrantsOf) (c : CallOf) (t : TurnOf) (response other : ResponseOf) (had : IsAnswered c t response) (has : IsAnswered c t other) where
+  one_response : response ≡ other
+  one_response = one_answer c t response other had has
+
+  never_untimely : (moment : ℤ) → IsMoment g response.stamp t.moment moment → IsUntimely g other.stamp t.moment → ⊥
+  never_untimely moment timed late =
+      let P : ResponseOf → Type 0 = λ x. IsUntimely g x.stamp t.moment in
+      moment_right g response.stamp t.moment moment timed (subst P (sym one_response) late)
+
+  never_disordered : (places : Option (List ℕ)) (kind : WitnessKind) → GivesPlaces t.places places → MayBeTaken c.request response places → PlacesFault c.request other t.places kind → ⊥
+  never_disordered places kind gives taken fault =
+      let P : ResponseOf → Type 0 = λ x. PlacesFault c.request x t.places kind in
+      places_right c.request response t.places places kind gives taken (subst P (sym one_response) fault)
+
+  never_unfilled : (full : ResponseOf) (kind : WitnessKind) → IsFilled c.request response t.fills full → FillFault c.request other t.fills kind → ⊥
+  never_unfilled full kind filled fault =
+      let P : ResponseOf → Type 0 = λ x. FillFault c.request x t.fills kind in
+      filled_right c.request response t.fills full kind filled (subst P (sym one_response) fault)
+
+  one_disordered : (kind another : WitnessKind) → PlacesFault c.request response t.places kind → PlacesFault c.request other t.places another → kind ≡ another
+  one_disordered kind another fault wrong =
+      let P : ResponseOf → Type 0 = λ x. PlacesFault c.request x t.places another in
+      one_places_fault c.request response t.places kind another fault (subst P (sym one_response) wrong)
+
+  one_unfilled : (kind another : WitnessKind) → FillFault c.request response t.fills kind → FillFault c.request other t.fills another → kind ≡ another
+  one_unfilled kind another fault wrong =
+      let P : ResponseOf → Type 0 = λ x. FillFault c.request x t.fills another in
+      one_fill_fault c.request response t.fills kind another fault (subst P (sym one_response) wrong)
+
+  one_unborn : (kind another : WitnessKind) → BirthFault c.request response t.births kind → BirthFault c.request other t.births another → kind ≡ another
+  one_unborn kind another fault wrong =
+      let P : ResponseOf → Type 0 = λ x. BirthFault c.request x t.births another in
+      one_birth_fault c.request response t.births kind another fault (subst P (sym one_response) wrong)
+
 -- where they make a step nothing is wrong with what the turn gives
-pub step_right : (c : CallOf) (t : TurnOf) (s : StepOf) (kind : WitnessKind) → IsStep c t s → GivenFault c t kind → ⊥
-step_right c t s kind i (unfit_answer fault) = answered_right c t i.response kind i.answered fault
-step_right c t s kind i (unfit_places response had fault) =
-    let P : ResponseOf → Type 0 = λ x. PlacesFault c.request x t.places kind in
-    places_right c.request i.response t.places i.places kind i.ordered i.taken (subst P (one_answer c t response i.response had i.answered) fault)
-step_right c t s kind i (unfilled response had places gives taken fault) =
-    let P : ResponseOf → Type 0 = λ x. IsFilled c.request x t.fills i.full in
-    filled_right c.request response t.fills i.full kind (subst P (one_answer c t i.response response i.answered had) i.filled) fault
+pub step_right : (g : GrantsOf) (c : CallOf) (t : TurnOf) (s : StepOf) (kind : WitnessKind) → IsStep g c t s → GivenFault g c t kind → ⊥
+step_right g c t s kind i (unfit_answer fault) = answered_right c t i.response kind i.answered fault
+step_right g c t s kind i (untimely response had late is) = never_untimely g c t i.response response i.answered had i.moment i.timed late
+step_right g c t s kind i (unfit_places response had moment timed fault) = never_disordered g c t i.response response i.answered had i.places kind i.ordered i.taken fault
+step_right g c t s kind i (unfilled response had moment timed places gives taken fault) = never_unfilled g c t i.response response i.answered had i.full kind i.filled fault
+step_right g c t s kind i (unfit_births response had moment timed places gives taken full filled fault) = no_birth_fault c.request response t.births kind i.no_birth fault
+step_right g c t s kind i (unfit_asides response had moment timed places gives taken full filled none some is) = some i.no_aside
 
 -- and else one thing is
-pub one_given : (c : CallOf) (t : TurnOf) (kind other : WitnessKind) → GivenFault c t kind → GivenFault c t other → kind ≡ other
-one_given c t kind other (unfit_answer fault) (unfit_answer wrong) = one_answer_fault c t kind other fault wrong
-one_given c t kind other (unfit_answer fault) (unfit_places response had wrong) = absurd (answered_right c t response kind had fault)
-one_given c t kind other (unfit_answer fault) (unfilled response had places gives taken wrong) = absurd (answered_right c t response kind had fault)
-one_given c t kind other (unfit_places response had fault) (unfit_answer wrong) = absurd (answered_right c t response other had wrong)
-one_given c t kind other (unfit_places response had fault) (unfit_places answer has wrong) =
-    let P : ResponseOf → Type 0 = λ x. PlacesFault c.request x t.places other in
-    one_places_fault c.request response t.places kind other fault (subst P (one_answer c t answer response has had) wrong)
-one_given c t kind other (unfit_places response had fault) (unfilled answer has places gives taken wrong) =
-    let P : ResponseOf → Type 0 = λ x. PlacesFault c.request x t.places kind in
-    absurd (places_right c.request answer t.places places kind gives taken (subst P (one_answer c t response answer had has) fault))
-one_given c t kind other (unfilled response had places gives taken fault) (unfit_answer wrong) = absurd (answered_right c t response other had wrong)
-one_given c t kind other (unfilled response had places gives taken fault) (unfit_places answer has wrong) =
-    let P : ResponseOf → Type 0 = λ x. PlacesFault c.request x t.places other in
-    absurd (places_right c.request response t.places places other gives taken (subst P (one_answer c t answer response has had) wrong))
-one_given c t kind other (unfilled response had places gives taken fault) (unfilled answer has ps give take wrong) =
-    let P : ResponseOf → Type 0 = λ x. FillFault c.request x t.fills other in
-    one_fill_fault c.request response t.fills kind other fault (subst P (one_answer c t answer response has had) wrong)
+pub one_given : (g : GrantsOf) (c : CallOf) (t : TurnOf) (kind other : WitnessKind) → GivenFault g c t kind → GivenFault g c t other → kind ≡ other
+one_given g c t kind other (unfit_answer fault) (unfit_answer wrong) = one_answer_fault c t kind other fault wrong
+one_given g c t kind other (unfit_answer fault) (untimely answer has behind same) = absurd (answered_right c t answer kind has fault)
+one_given g c t kind other (unfit_answer fault) (unfit_places answer has time times wrong) = absurd (answered_right c t answer kind has fault)
+one_given g c t kind other (unfit_answer fault) (unfilled answer has time times ps give take wrong) = absurd (answered_right c t answer kind has fault)
+one_given g c t kind other (unfit_answer fault) (unfit_births answer has time times ps give take whole fills wrong) = absurd (answered_right c t answer kind has fault)
+one_given g c t kind other (unfit_answer fault) (unfit_asides answer has time times ps give take whole fills without any same) = absurd (answered_right c t answer kind has fault)
+one_given g c t kind other (untimely response had late is) (unfit_answer wrong) = absurd (answered_right c t response other had wrong)
+one_given g c t kind other (untimely response had late is) (untimely answer has behind same) = is ∙ sym same
+one_given g c t kind other (untimely response had late is) (unfit_places answer has time times wrong) = absurd (never_untimely g c t answer response has had time times late)
+one_given g c t kind other (untimely response had late is) (unfilled answer has time times ps give take wrong) = absurd (never_untimely g c t answer response has had time times late)
+one_given g c t kind other (untimely response had late is) (unfit_births answer has time times ps give take whole fills wrong) = absurd (never_untimely g c t answer response has had time times late)
+one_given g c t kind other (untimely response had late is) (unfit_asides answer has time times ps give take whole fills without any same) = absurd (never_untimely g c t answer response has had time times late)
+one_given g c t kind other (unfit_places response had moment timed fault) (unfit_answer wrong) = absurd (answered_right c t response other had wrong)
+one_given g c t kind other (unfit_places response had moment timed fault) (untimely answer has behind same) = absurd (never_untimely g c t response answer had has moment timed behind)
+one_given g c t kind other (unfit_places response had moment timed fault) (unfit_places answer has time times wrong) = one_disordered g c t response answer had has kind other fault wrong
+one_given g c t kind other (unfit_places response had moment timed fault) (unfilled answer has time times ps give take wrong) = absurd (never_disordered g c t answer response has had ps kind give take fault)
+one_given g c t kind other (unfit_places response had moment timed fault) (unfit_births answer has time times ps give take whole fills wrong) = absurd (never_disordered g c t answer response has had ps kind give take fault)
+one_given g c t kind other (unfit_places response had moment timed fault) (unfit_asides answer has time times ps give take whole fills without any same) = absurd (never_disordered g c t answer response has had ps kind give take fault)
+one_given g c t kind other (unfilled response had moment timed places gives taken fault) (unfit_answer wrong) = absurd (answered_right c t response other had wrong)
+one_given g c t kind other (unfilled response had moment timed places gives taken fault) (untimely answer has behind same) = absurd (never_untimely g c t response answer had has moment timed behind)
+one_given g c t kind other (unfilled response had moment timed places gives taken fault) (unfit_places answer has time times wrong) = absurd (never_disordered g c t response answer had has places other gives taken wrong)
+one_given g c t kind other (unfilled response had moment timed places gives taken fault) (unfilled answer has time times ps give take wrong) = one_unfilled g c t response answer had has kind other fault wrong
+one_given g c t kind other (unfilled response had moment timed places gives taken fault) (unfit_births answer has time times ps give take whole fills wrong) = absurd (never_unfilled g c t answer response has had whole kind fills fault)
+one_given g c t kind other (unfilled response had moment timed places gives taken fault) (unfit_asides answer has time times ps give take whole fills without any same) = absurd (never_unfilled g c t answer response has had whole kind fills fault)
+one_given g c t kind other (unfit_births response had moment timed places gives taken full filled fault) (unfit_answer wrong) = absurd (answered_right c t response other had wrong)
+one_given g c t kind other (unfit_births response had moment timed places gives taken full filled fault) (untimely answer has behind same) = absurd (never_untimely g c t response answer had has moment timed behind)
+one_given g c t kind other (unfit_births response had moment timed places gives taken full filled fault) (unfit_places answer has time times wrong) = absurd (never_disordered g c t response answer had has places other gives taken wrong)
+one_given g c t kind other (unfit_births response had moment timed places gives taken full filled fault) (unfilled answer has time times ps give take wrong) = absurd (never_unfilled g c t response answer had has full other filled wrong)
+one_given g c t kind other (unfit_births response had moment timed places gives taken full filled fault) (unfit_births answer has time times ps give take whole fills wrong) = one_unborn g c t response answer had has kind other fault wrong
+one_given g c t kind other (unfit_births response had moment timed places gives taken full filled fault) (unfit_asides answer has time times ps give take whole fills without any same) = absurd (no_birth_fault c.request response t.births kind without fault)
+one_given g c t kind other (unfit_asides response had moment timed places gives taken full filled none some is) (unfit_answer wrong) = absurd (answered_right c t response other had wrong)
+one_given g c t kind other (unfit_asides response had moment timed places gives taken full filled none some is) (untimely answer has behind same) = absurd (never_untimely g c t response answer had has moment timed behind)
+one_given g c t kind other (unfit_asides response had moment timed places gives taken full filled none some is) (unfit_places answer has time times wrong) = absurd (never_disordered g c t response answer had has places other gives taken wrong)
+one_given g c t kind other (unfit_asides response had moment timed places gives taken full filled none some is) (unfilled answer has time times ps give take wrong) = absurd (never_unfilled g c t response answer had has full other filled wrong)
+one_given g c t kind other (unfit_asides response had moment timed places gives taken full filled none some is) (unfit_births answer has time times ps give take whole fills wrong) = absurd (no_birth_fault c.request answer t.births other none wrong)
+one_given g c t kind other (unfit_asides response had moment timed places gives taken full filled none some is) (unfit_asides answer has time times ps give take whole fills without any same) = is ∙ sym same
 
 -- a call and a turn make one step
-pub one_step_lem : (c : CallOf) (t : TurnOf) (s u : StepOf) → IsStep c t s → IsStep c t u → s ≡ u
-one_step_lem c t s u a b =
+pub one_step_lem : (g : GrantsOf) (c : CallOf) (t : TurnOf) (s u : StepOf) → IsStep g c t s → IsStep g c t u → s ≡ u
+one_step_lem g c t s u a b =
     let same = one_answer c t b.response a.response b.answered a.answered in
     let P : ResponseOf → Type 0 = λ x. IsFilled c.request x t.fills b.full in
-    a.is ∙ ap (λ (r : ResponseOf). step_along c r a.places) (one_filled c.request a.response t.fills a.full b.full a.filled (subst P same b.filled))
-    ∙ ap (step_along c b.full) (one_places t.places a.places b.places a.ordered b.ordered) ∙ sym b.is
+    let Q : ResponseOf → Type 0 = λ x. IsMoment g x.stamp t.moment b.moment in
+    a.is ∙ ap (λ (r : ResponseOf). step_at c r a.moment a.places) (one_filled c.request a.response t.fills a.full b.full a.filled (subst P same b.filled))
+    ∙ ap (λ (m : ℤ). step_at c b.full m a.places) (one_moment g a.response.stamp t.moment a.moment b.moment a.timed (subst Q same b.timed))
+    ∙ ap (step_at c b.full b.moment) (one_places t.places a.places b.places a.ordered b.ordered) ∙ sym b.is
 
 -- and a witness gives one order
-pub one_order_lem : (calls : List CallOf) (turns : List TurnOf) (steps others : List StepOf) → IsOnce (map number_of calls) → IsOrder calls turns steps → IsOrder calls turns others → steps ≡ others
-one_order_lem calls turns steps others once o p = same_elements steps others (o.counted ∙ sym p.counted) (λ i s at. by i s at)
+pub one_order_lem : (g : GrantsOf) (calls : List CallOf) (turns : List TurnOf) (steps others : List StepOf) → IsOnce (map number_of calls) → IsOrder g calls turns steps → IsOrder g calls turns others → steps ≡ others
+one_order_lem g calls turns steps others once o p = same_elements steps others (o.counted ∙ sym p.counted) (λ i s at. by i s at)
   where
     by : (i : ℕ) (s : StepOf) → slice_get steps i ≡ Some s → slice_get others i ≡ Some s
     by i s at =
         let u = some_at others i (omega (arith, slice_get_within steps i s at, o.counted, p.counted)) in
         let f = o.formed i s at in
-        let g = p.formed i u.0 u.1 in
+        let h = p.formed i u.0 u.1 in
         let here = f.there in
-        let there = g.there in
-        let turn : g.turn ≡ f.turn = cc in
+        let there = h.there in
+        let turn : h.turn ≡ f.turn = cc in
         let a = at_contains calls f.call f.known in
-        let b = at_contains calls g.call g.known in
-        let call : g.call ≡ f.call = same_call calls once b.0 a.0 g.call f.call b.1 a.1 (sym g.step.named ∙ ap (λ (t : TurnOf). t.call) turn ∙ f.step.named) in
-        let P : CallOf → Type 0 = λ c. IsStep c g.turn u.0 in
-        let Q : TurnOf → Type 0 = λ t. IsStep f.call t u.0 in
-        u.1 ∙ ap Some (one_step_lem f.call f.turn u.0 s (subst Q turn (subst P call g.step)) f.step)
+        let b = at_contains calls h.call h.known in
+        let call : h.call ≡ f.call = same_call calls once b.0 a.0 h.call f.call b.1 a.1 (sym h.step.named ∙ ap (λ (t : TurnOf). t.call) turn ∙ f.step.named) in
+        let P : CallOf → Type 0 = λ c. IsStep g c h.turn u.0 in
+        let Q : TurnOf → Type 0 = λ t. IsStep g f.call t u.0 in
+        u.1 ∙ ap Some (one_step_lem g f.call f.turn u.0 s (subst Q turn (subst P call h.step)) f.step)

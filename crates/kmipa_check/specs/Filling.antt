@@ -4,6 +4,7 @@ use Rattle.kmipa_record.specs.Witnesses.{FillOf}
 use Rattle.kmipa_msgs.specs.declared.response.Payload.{Payload}
 use Rattle.kmipa_msgs.specs.Messages.{AskOf, PayloadOf, AnswerOf, RequestOf, ResponseOf, payload_of}
 use Rattle.kmipa_check.specs.Fills.{IsWantedAt, IsFor, SaysFill, IsFormless, with_payload, FillFault, SomeFormless, IsWantedItem}
+use Rattle.kmipa_check.specs.Numbers.{AreWantedOnce}
 use Rattle.kmipa_check.specs.declared.fault.StepFault.{StepFault}
 use Rattle.kmipa_check.specs.declared.fault.StepFault.TheVariants.{Unfit, Memory}
 use Rattle.kmipa_check.specs.declared.fault.WitnessKind.TheVariants.{FillForm}
@@ -13,10 +14,8 @@ abbrev pub AreNumbered : List FillOf → Type 0
 AreNumbered fills = (fill : FillOf) → Contains fills fill → fill.item ≤ℤ pos 0x7FFF_FFFF
 
 -- each of the first fills is for a place that waits, and none of them is for the item of an earlier one
-pub record AreWantedBelow (request : RequestOf) (response : ResponseOf) (fills : List FillOf) (count : ℕ) : Type 0 where
-  pub each : (at : ℕ) (fill : FillOf) → at < count → slice_get fills at ≡ Some fill → IsWantedItem request response fill.item × (fill.item ≤ℤ pos 0x7FFF_FFFF)
-  pub first : (at earlier : ℕ) (fill other : FillOf) → earlier < at → at < count → slice_get fills at ≡ Some fill → slice_get fills earlier ≡ Some other
-      → other.item ≡ fill.item → ⊥
+abbrev pub AreWantedBelow : RequestOf → ResponseOf → List FillOf → ℕ → Type 0
+AreWantedBelow request response fills count = AreWantedOnce (λ (f : FillOf). f.item) (λ item. IsWantedItem request response item × (item ≤ℤ pos 0x7FFF_FFFF)) fills count
 
 -- what reading a fill comes to
 abbrev pub FillRead : FillOf → AskOf → Result Payload StepFault → Type 0

@@ -3,7 +3,7 @@ use Rattle.std.specs.Prelude.{ℕ, List, codes}
 use Rattle.kmipa_check.specs.declared.fault.CheckFault.{CheckFault}
 use Rattle.kmipa_check.specs.declared.fault.CheckFault.TheVariants.{Outside, Witness, Memory}
 use Rattle.kmipa_check.specs.declared.fault.WitnessKind.{WitnessKind}
-use Rattle.kmipa_check.specs.declared.fault.WitnessKind.TheVariants.{UnknownCall, Twice, LeftOut, FillNotWanted, FillMissing, FillForm, AnswerNotWanted, AnswerMissing, AnswerForm, OrderNotWanted, OrderForm}
+use Rattle.kmipa_check.specs.declared.fault.WitnessKind.TheVariants.{UnknownCall, Twice, LeftOut, FillNotWanted, FillMissing, FillForm, AnswerNotWanted, AnswerMissing, AnswerForm, OrderNotWanted, OrderForm, MomentForm, BirthNotWanted, BirthForm, AsideForm}
 
 abbrev pub fault_number : CheckFault → ℕ
 fault_number (Outside number side o) = 1
@@ -22,6 +22,10 @@ kind_number AnswerMissing = 8
 kind_number AnswerForm = 9
 kind_number OrderNotWanted = 10
 kind_number OrderForm = 11
+kind_number MomentForm = 12
+kind_number BirthNotWanted = 13
+kind_number BirthForm = 14
+kind_number AsideForm = 15
 
 abbrev pub kind_name : WitnessKind → List ℕ
 kind_name UnknownCall = codes "UnknownCall"
@@ -35,3 +39,7 @@ kind_name AnswerMissing = codes "AnswerMissing"
 kind_name AnswerForm = codes "AnswerForm"
 kind_name OrderNotWanted = codes "OrderNotWanted"
 kind_name OrderForm = codes "OrderForm"
+kind_name MomentForm = codes "MomentForm"
+kind_name BirthNotWanted = codes "BirthNotWanted"
+kind_name BirthForm = codes "BirthForm"
+kind_name AsideForm = codes "AsideForm"

@@ -17,6 +17,7 @@ use Rattle.kmipa_check.specs.Calls.{CallOf, AreCalls, AreTimed, IsRecorded}
 use Rattle.kmipa_check.specs.Fills.{IsFilled}
 use Rattle.kmipa_check.specs.Steps.{StepOf, order_of, IsStep}
 use Rattle.kmipa_check.specs.Described.{Describes}
+use Rattle.kmipa_check.specs.Grants.{GrantsOf, grants_declared}
 use Rattle.kmipa_check.specs.Orders.{IsOrder}
 use Rattle.kmipa_check.specs.Runs.{Before, IsPlaced, Linked, TakeEachOnce, IsAccepted, IsExplained, rules_declared}
 use Rattle.kmipa_check.specs.Verdicts.{AreKnown, Checks}
@@ -33,8 +34,8 @@ OneListOfCalls = (marks : List MarkOf) (calls others : List CallOf) → AreRecor
 
 -- a witness gives one order of them
 abbrev pub OneOrder : Type 0
-OneOrder = (marks : List MarkOf) (calls : List CallOf) (turns : List TurnOf) (steps others : List StepOf)
-    → AreRecorded marks → AreCalls marks calls → IsOrder calls turns steps → IsOrder calls turns others → steps ≡ others
+OneOrder = (g : GrantsOf) (marks : List MarkOf) (calls : List CallOf) (turns : List TurnOf) (steps others : List StepOf)
+    → AreRecorded marks → AreCalls marks calls → IsOrder g calls turns steps → IsOrder g calls turns others → steps ≡ others
 
 -- two answers are one, or memory ran out: of two no's turn, call, item and reason are equal
 abbrev pub AreOne : Result Verdict CheckFault → Result Verdict CheckFault → Type 0
@@ -65,7 +66,7 @@ FilledIsCompleted = (request : RequestOf) (response full fuller : ResponseOf) (f
 abbrev pub CallsAreTimed : Type 0
 CallsAreTimed = (marks : List MarkOf) (calls : List CallOf) → AreRecorded marks → AreCalls marks calls → AreTimed calls
 
--- where these steps are left, this one may be taken next: none of them is before it, and none has a lower stamp
+-- where these steps are left, this one may be taken next: none of them is before it, and none has an earlier moment
 pub record MayBeNext (s : StepOf) (left : List StepOf) : Type 0 where
   pub first : (d : StepOf) → Contains left d → Before d s → ⊥
   pub least : (d : StepOf) → Contains left d → s.response.stamp ≤ℤ d.response.stamp
@@ -87,16 +88,16 @@ RefusedIsNever = (declared : DeclarationOf) (steps rest : List StepOf) (s : Step
 
 -- a step of a recorded call can be judged
 abbrev pub StepIsReadable : Type 0
-StepIsReadable = (marks : List MarkOf) (c : CallOf) (t : TurnOf) (s : StepOf) → IsRecorded marks c → IsStep c t s → IsReadableCall s.request s.response
+StepIsReadable = (g : GrantsOf) (marks : List MarkOf) (c : CallOf) (t : TurnOf) (s : StepOf) → IsRecorded marks c → IsStep g c t s → IsReadableCall s.request s.response
 
 -- each turn makes the step at its place with one of the calls
-abbrev pub AreMade : List CallOf → List TurnOf → List StepOf → Type 0
-AreMade calls turns steps = AllZip (λ (t : TurnOf) (s : StepOf). (c : CallOf) × Contains calls c × IsStep c t s) turns steps
+abbrev pub AreMade : GrantsOf → List CallOf → List TurnOf → List StepOf → Type 0
+AreMade g calls turns steps = AllZip (λ (t : TurnOf) (s : StepOf). (c : CallOf) × Contains calls c × IsStep g c t s) turns steps
 
 -- steps that take each call once, are placed and known to their end are a witness that is accepted
 abbrev pub KnownIsAccepted : Type 0
 KnownIsAccepted = (marks : List MarkOf) (declared : DeclarationOf) (calls : List CallOf) (turns : List TurnOf) (steps : List StepOf) (m : Meaning)
-    → AreCalls marks calls → AreMade calls turns steps → TakeEachOnce calls steps → IsPlaced steps → AreKnown declared steps m → IsSound m
+    → AreCalls marks calls → AreMade (grants_declared declared) calls turns steps → TakeEachOnce (grants_declared declared) calls steps → IsPlaced steps → AreKnown declared steps m → IsSound m
     → IsAccepted marks declared turns
 
 -- a transcript with an accepted witness is explained

@@ -12,6 +12,7 @@ use Rattle.kmipa_record.specs.Witnesses.{TurnOf}
 use Rattle.kmipa_check.specs.Calls.{CallOf, AreCalls}
 use Rattle.kmipa_check.specs.Steps.{StepOf}
 use Rattle.kmipa_check.specs.Described.{Describes}
+use Rattle.kmipa_check.specs.Grants.{grants_declared}
 use Rattle.kmipa_check.specs.Orders.{IsOrder}
 use Rattle.kmipa_store.specs.Choices.{IsSound}
 use Rattle.kmipa_check.specs.Verdicts.{AreKnown}
@@ -26,10 +27,12 @@ use Rattle.kmipa_check.specs.Runs.{Linked, IsPlaced, rules_declared}
 abbrev pub CanEnd : DeclarationOf → List StepOf → List Thing → Type 0
 CanEnd declared steps last = (start : List Thing) × Describes declared start × Linked (rules_declared declared) start steps last
 
--- The declaration is what the steps leave: it describes exactly the inventories in which they can end, under the same rules.
+-- The declaration is what the steps leave: it describes exactly the inventories in which they can end, under the same rules, and grants the
+-- same.
 pub record IsLeft (declared : DeclarationOf) (steps : List StepOf) (left : DeclarationOf) : Type 0 where
   pub objects : AreDeclared left
   pub rules : rules_declared left ≡ rules_declared declared
+  pub grants : grants_declared left ≡ grants_declared declared
   pub exactly : (last : List Thing) → Describes left last ↔ CanEnd declared steps last
 
 -- The witness takes the calls of these marks, and leaves the other declaration. Where that one describes some inventory, the witness is accepted.
@@ -37,7 +40,7 @@ pub record LeavesDeclaration (marks : List MarkOf) (declared : DeclarationOf) (t
   pub calls : List CallOf
   pub are : AreCalls marks calls
   pub steps : List StepOf
-  pub order : IsOrder calls turns steps
+  pub order : IsOrder (grants_declared declared) calls turns steps
   pub placed : IsPlaced steps
   pub leaves : IsLeft declared steps left
 

@@ -1,5 +1,8 @@
 pub mod Calls
 pub mod Fills
+pub mod Grants
+pub mod Moments
+pub mod Births
 pub mod Places
 pub mod Steps
 pub mod Described

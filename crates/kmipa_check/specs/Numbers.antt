@@ -36,7 +36,12 @@ abbrev pub is_noted : Option ℕ → ℕ → Bool
 is_noted None place = false
 is_noted (Some first) place = first == place
 
--- ---- how the places are noted, not promised
+-- ---- how they are noted and tested, not promised
+
+-- the numbers of the first so many elements are wanted, and none of them is that of an earlier one
+pub record AreWantedOnce {X : Type 0} (number : X → ℤ) (Wanted : ℤ → Type 0) (xs : List X) (count : ℕ) : Type 0 where
+  pub each : (at : ℕ) (x : X) → at < count → slice_get xs at ≡ Some x → Wanted (number x)
+  pub first : (at earlier : ℕ) (x y : X) → earlier < at → at < count → slice_get xs at ≡ Some x → slice_get xs earlier ≡ Some y → number y ≡ number x → ⊥
 
 abbrev pub or_else : Option ℕ → ℕ → Option ℕ
 or_else None place = Some place

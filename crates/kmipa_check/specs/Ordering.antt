@@ -4,7 +4,8 @@ use Rattle.kmipa_record.specs.Witnesses.{TurnOf}
 use Rattle.kmipa_msgs.specs.Messages.{RequestOf, ResponseOf}
 use Rattle.kmipa_check.specs.Calls.{CallOf}
 use Rattle.kmipa_check.specs.Fills.{IsWanted}
-use Rattle.kmipa_check.specs.Orders.{TurnFault}
+use Rattle.kmipa_check.specs.Grants.{GrantsOf}
+use Rattle.kmipa_check.specs.Orders.{IsAnswerFault, TurnFault}
 use Rattle.kmipa_check.specs.Numbers.{place_in}
 use Rattle.kmipa_check.specs.declared.numbers.FirstPlaces.{FirstPlaces}
 use Rattle.kmipa_check.specs.declared.fault.CheckFault.{CheckFault}
@@ -16,10 +17,15 @@ use Rattle.kmipa_check.specs.declared.fault.StepFault.TheVariants as step_fault
 abbrev pub NoneWantedBelow : RequestOf → ResponseOf → ℕ → Type 0
 NoneWantedBelow request response count = (place : ℕ) → place < count → IsWanted request response place → ⊥
 
+-- the answer that a turn gives to a call is refused; want of memory tells nothing
+abbrev pub AnswerRefused : CallOf → TurnOf → StepFault → Type 0
+AnswerRefused c t (step_fault.Unfit kind) = IsAnswerFault c t kind
+AnswerRefused c t step_fault.Memory = Unit {0}
+
 -- the turn at this place makes no step; want of memory tells nothing
-abbrev pub TurnRefused : List CallOf → List TurnOf → ℕ → StepFault → Type 0
-TurnRefused calls turns place (step_fault.Unfit kind) = TurnFault calls turns place kind
-TurnRefused calls turns place step_fault.Memory = Unit {0}
+abbrev pub TurnRefused : GrantsOf → List CallOf → List TurnOf → ℕ → StepFault → Type 0
+TurnRefused g calls turns place (step_fault.Unfit kind) = TurnFault g calls turns place kind
+TurnRefused g calls turns place step_fault.Memory = Unit {0}
 
 -- its fault, where turns are counted from 1
 abbrev pub fault_at : ℕ → StepFault → CheckFault

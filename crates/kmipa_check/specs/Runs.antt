@@ -9,6 +9,7 @@ use Rattle.kmipa_batch.specs.Calls.{CallSomeAlong}
 use Rattle.kmipa_check.specs.Calls.{CallOf, AreCalls}
 use Rattle.kmipa_check.specs.Steps.{StepOf, order_of, IsStep}
 use Rattle.kmipa_check.specs.Described.{Describes}
+use Rattle.kmipa_check.specs.Grants.{GrantsOf, grants_declared}
 use Rattle.kmipa_check.specs.Orders.{IsOrder}
 
 -- there is an end, and it stands before the place
@@ -20,7 +21,7 @@ EndsAhead (Some end) place = end < place
 abbrev pub Before : StepOf → StepOf → Type 0
 Before a b = EndsAhead a.end b.begin
 
--- no step stands after one that it is before, and stamps never fall
+-- no step stands after one that it is before, and moments never fall
 pub record IsPlaced (steps : List StepOf) : Type 0 where
   pub kept : AllPairs (λ (a b : StepOf). ¬ (Before b a)) steps
   pub stamped : AllPairs (λ (a b : StepOf). a.response.stamp ≤ℤ b.response.stamp) steps
@@ -31,18 +32,18 @@ Linked rules V [] W = W ≡ V
 Linked rules V (s ∷ steps) W = (M : List Thing) × CallSomeAlong rules V s.request s.response (order_of s) M × Linked rules M steps W
 
 -- some turn makes this step with one of the calls
-abbrev pub IsOfCalls : List CallOf → StepOf → Type 0
-IsOfCalls calls s = (c : CallOf) × (t : TurnOf) × Contains calls c × IsStep c t s
+abbrev pub IsOfCalls : GrantsOf → List CallOf → StepOf → Type 0
+IsOfCalls g calls s = (c : CallOf) × (t : TurnOf) × Contains calls c × IsStep g c t s
 
 -- the steps take each of these calls once that has ended, each open one at most once, and no other
-pub record TakeEachOnce (calls : List CallOf) (steps : List StepOf) : Type 0 where
-  pub of_calls : (s : StepOf) → Contains steps s → IsOfCalls calls s
+pub record TakeEachOnce (g : GrantsOf) (calls : List CallOf) (steps : List StepOf) : Type 0 where
+  pub of_calls : (s : StepOf) → Contains steps s → IsOfCalls g calls s
   pub once : AllPairs (λ (a b : StepOf). a.number ≢ b.number) steps
   pub all : (c : CallOf) (end : ℕ) → Contains calls c → c.end ≡ Some end → (s : StepOf) × Contains steps s × (s.number ≡ c.number)
 
--- a run of the calls by these steps, from this inventory: each call that has ended once, each open one at most once, none before one that it stands after, stamps never falling
-pub record IsRun (rules : RulesOf) (calls : List CallOf) (start : List Thing) (steps : List StepOf) : Type 0 where
-  pub once : TakeEachOnce calls steps
+-- a run of the calls by these steps, from this inventory: each call that has ended once, each open one at most once, none before one that it stands after, moments never falling
+pub record IsRun (g : GrantsOf) (rules : RulesOf) (calls : List CallOf) (start : List Thing) (steps : List StepOf) : Type 0 where
+  pub once : TakeEachOnce g calls steps
   pub placed : IsPlaced steps
   pub last : List Thing
   pub linked : Linked rules start steps last
@@ -67,10 +68,10 @@ pub record IsAccepted (marks : List MarkOf) (declared : DeclarationOf) (turns : 
   pub calls : List CallOf
   pub are : AreCalls marks calls
   pub steps : List StepOf
-  pub order : IsOrder calls turns steps
+  pub order : IsOrder (grants_declared declared) calls turns steps
   pub start : List Thing
   pub described : Describes declared start
-  pub run : IsRun (rules_declared declared) calls start steps
+  pub run : IsRun (grants_declared declared) (rules_declared declared) calls start steps
 
 -- Some inventory that the declaration describes has a run of all calls of the transcript, in some order.
 pub record IsExplained (marks : List MarkOf) (declared : DeclarationOf) : Type 0 where
@@ -79,4 +80,4 @@ pub record IsExplained (marks : List MarkOf) (declared : DeclarationOf) : Type 0
   pub start : List Thing
   pub described : Describes declared start
   pub steps : List StepOf
-  pub run : IsRun (rules_declared declared) calls start steps
+  pub run : IsRun (grants_declared declared) (rules_declared declared) calls start steps

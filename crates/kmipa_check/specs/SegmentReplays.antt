@@ -13,7 +13,7 @@ use Rattle.kmipa_check.specs.declared.verdict.Refused.{Refused}
 use Rattle.kmipa_check.specs.declared.verdict.Verdict.{Verdict}
 use Rattle.kmipa_check.specs.declared.verdict.Verdict.TheVariants.{Yes, No}
 
--- whether the first turn is refused for its stamp
+-- whether the first turn is refused for its moment
 abbrev pub FirstTold : Option ℤ → List StepOf → Option Refused → Type 0
 FirstTold since order (Some r) = IsRefusedFirst since order r
 FirstTold since order None = (first : StepOf) → BeginsBelow since order first → IsLate order 0 first
@@ -32,7 +32,7 @@ TellsSegment declared since order (Err Memory) = Unit {0}
 TellsSegment declared since order (Err (Outside number side o)) = ⊥
 TellsSegment declared since order (Err (Witness f)) = ⊥
 
--- the declaration of a ledger that replayed all steps, none below the moment, and the stamp of the last
+-- the declaration of a ledger that replayed all steps, none below the moment, and the moment of the last
 pub record IsLeftSince (declared : DeclarationOf) (since : Option ℤ) (order : List StepOf) (left : DeclarationOf) (until : Option ℤ) : Type 0 where
   pub behind : IsLeftBehind declared order left
   pub since_then : AreSince since order

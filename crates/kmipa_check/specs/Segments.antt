@@ -7,8 +7,8 @@ use Rattle.kmipa_check.specs.Calls.{HasEnd}
 use Rattle.kmipa_check.specs.Left.{LeavesDeclaration}
 use Rattle.kmipa_check.specs.Since.{AreSince, last_stamp, IsAcceptedSince}
 
--- The witness takes the calls of these marks, none at a Time Stamp below the moment, and leaves the other declaration; the next segment goes on
--- from the later moment, the Time Stamp of its last turn.
+-- The witness takes the calls of these marks, none at a moment below the first, and leaves the other declaration; the next segment goes on
+-- from the later moment, that of its last turn.
 pub record Leads (declared : DeclarationOf) (since : Option ℤ) (marks : List MarkOf) (turns : List TurnOf) (left : DeclarationOf) (until : Option ℤ) : Type 0 where
   pub run : LeavesDeclaration marks declared turns left
   pub since_then : AreSince since run.steps
@@ -37,7 +37,7 @@ SegmentsJoin = (first second : List MarkOf) (turns more : List TurnOf) (declared
     → Leads declared since first turns between middle → Leads between middle second more left until
     → Leads declared since (first ++ second) (turns ++ more) left until
 
--- So a segment that is accepted from what the one before it leaves, and from its last stamp on, is accepted with it.
+-- So a segment that is accepted from what the one before it leaves, and from its last moment on, is accepted with it.
 abbrev pub AcceptedBehindIsAccepted : Type 0
 AcceptedBehindIsAccepted = (first second : List MarkOf) (turns more : List TurnOf) (declared between : DeclarationOf) (since middle : Option ℤ)
     → HaveBegun first → HaveBegun second → AreApart first second
@@ -49,7 +49,7 @@ abbrev pub NameOnly : List MarkOf → List TurnOf → Type 0
 NameOnly marks turns = (t : TurnOf) → Contains turns t → Contains (begun marks) t.call
 
 -- And where both together are accepted, the turns behind naming calls of the second segment alone, the second is accepted from what the first
--- leaves, and from its last stamp on.
+-- leaves, and from its last moment on.
 abbrev pub AcceptedTogetherIsAccepted : Type 0
 AcceptedTogetherIsAccepted = (first second : List MarkOf) (turns more : List TurnOf) (declared between : DeclarationOf) (since middle : Option ℤ)
     → AreRecorded first → AreRecorded second → AreApart first second

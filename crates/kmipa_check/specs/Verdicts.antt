@@ -16,6 +16,7 @@ use Rattle.kmipa_ops.specs.Explains.{BringsOrShows}
 use Rattle.kmipa_batch.specs.Calls.{pairs_of, pairs_taken, RefusesMessage}
 use Rattle.kmipa_batch.specs.Refusals.{AreShapedFor, SpeaksAtAlong}
 use Rattle.kmipa_check.specs.Calls.{CallOf, AreCalls, IsFirstOutside}
+use Rattle.kmipa_check.specs.Grants.{grants_declared}
 use Rattle.kmipa_check.specs.Steps.{StepOf, order_of}
 use Rattle.kmipa_check.specs.Described.{Describes}
 use Rattle.kmipa_check.specs.Runs.{Before, Linked, rules_declared, IsAccepted}
@@ -30,7 +31,7 @@ use Rattle.kmipa_check.specs.declared.verdict.Verdict.TheVariants.{Yes, No}
 abbrev pub IsLate : List StepOf → ℕ → StepOf → Type 0
 IsLate order turn c = (later : ℕ) × (d : StepOf) × (turn < later) × (slice_get order later ≡ Some d) × Before d c
 
--- the stamp is less than that of the turn before
+-- the moment is less than that of the turn before
 abbrev pub RunsBack : List StepOf → ℕ → StepOf → Type 0
 RunsBack order turn c = (earlier : ℕ) × (d : StepOf) × (earlier + 1 ≡ turn) × (slice_get order earlier ≡ Some d) × (c.response.stamp <ℤ d.response.stamp)
 
@@ -116,13 +117,13 @@ pub record IsRefused (declared : DeclarationOf) (order : List StepOf) (r : Refus
 abbrev pub TellsVerdict : List MarkOf → DeclarationOf → List TurnOf → Verdict → Type 0
 TellsVerdict marks declared turns Yes = IsAccepted marks declared turns
 TellsVerdict marks declared turns (No r) =
-    (calls : List CallOf) × AreCalls marks calls × ((order : List StepOf) × IsOrder calls turns order × IsRefused declared order r)
+    (calls : List CallOf) × AreCalls marks calls × ((order : List StepOf) × IsOrder (grants_declared declared) calls turns order × IsRefused declared order r)
 
 -- what a check answers: a verdict; or the first message that is outside; or, where none is, the fault of the witness
 abbrev pub Checks : List MarkOf → DeclarationOf → List TurnOf → Result Verdict CheckFault → Type 0
 Checks marks declared turns (Ok verdict) = TellsVerdict marks declared turns verdict
 Checks marks declared turns (Err (Outside number side o)) = IsFirstOutside marks number side o.item o.kind
-Checks marks declared turns (Err (Witness f)) = (calls : List CallOf) × AreCalls marks calls × WitnessFaultAt calls turns f.at f.kind
+Checks marks declared turns (Err (Witness f)) = (calls : List CallOf) × AreCalls marks calls × WitnessFaultAt (grants_declared declared) calls turns f.at f.kind
 Checks marks declared turns (Err Memory) = Unit {0}
 
 -- of an accepted witness a check answers yes, unless memory runs out; so it answers yes exactly there

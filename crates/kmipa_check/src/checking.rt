@@ -10,6 +10,7 @@ ghost use Rattle.kmipa_check.specs.Verdicts.{Checks};
 
 use crate::call::Call;
 use crate::fault::CheckFault;
+use crate::grants::Grants;
 use crate::opening::{open_ledger, rules_of_declaration};
 use crate::order::steps_of;
 use crate::reading::read_calls;
@@ -49,7 +50,7 @@ pub fn check_calls(
     ensures { (marks : List MarkOf) → AreRecorded marks → AreCalls marks (map call_of calls.now)
         → Checks marks (declaration_of declaration.now) (witness_of witness.now) result }
 {
-    let steps = steps_of(alloc, calls, &witness.turns)?;
+    let steps = steps_of(alloc, &Grants::of(declaration), calls, &witness.turns)?;
     let rules = rules_of_declaration(alloc, declaration)?;
     let mut ledger = open_ledger(alloc, declaration)?;
     replay(alloc, &mut ledger, &rules, &steps)

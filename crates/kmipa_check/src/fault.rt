@@ -52,8 +52,8 @@ pub struct WitnessFault {
     pub kind: WitnessKind,
 }
 
-/// The kinds of faults of a witness. In one turn the first is reported in the order 1, 2, 7, 8, 9, 10, 11, 4, 5, 6, and `LeftOut` after all
-/// others.
+/// The kinds of faults of a witness. In one turn the first is reported in the order 1, 2, 7, 8, 9, 12, 10, 11, 4, 5, 6, 13, 14, 15, and
+/// `LeftOut` after all others.
 #[derive(Clone, Copy, Debug, PartialEq, Eq)]
 pub enum WitnessKind {
     /// The turn names no call of the transcript.
@@ -78,6 +78,14 @@ pub enum WitnessKind {
     OrderNotWanted = 10,
     /// An order of items isn't one of the answered items.
     OrderForm = 11,
+    /// A moment is farther from the stamp of the response than the declaration allows.
+    MomentForm = 12,
+    /// A birth is given where no object is brought forth, or a second one for one item.
+    BirthNotWanted = 13,
+    /// A birth gives what the server may not give of its own: as yet nothing may be given so.
+    BirthForm = 14,
+    /// A place is set aside: as yet none may be.
+    AsideForm = 15,
 }
 
 impl WitnessKind {
@@ -107,6 +115,10 @@ impl WitnessKind {
             WitnessKind::AnswerForm => "AnswerForm",
             WitnessKind::OrderNotWanted => "OrderNotWanted",
             WitnessKind::OrderForm => "OrderForm",
+            WitnessKind::MomentForm => "MomentForm",
+            WitnessKind::BirthNotWanted => "BirthNotWanted",
+            WitnessKind::BirthForm => "BirthForm",
+            WitnessKind::AsideForm => "AsideForm",
         }
     }
 }

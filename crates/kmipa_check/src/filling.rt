@@ -81,7 +81,7 @@ fn is_wanted_item(request: &Request, response: &Response, item: i32) -> bool
 }
 
 /// The place, counted from 0, of the item of this number.
-fn item_place(item: i32) -> usize
+pub(crate) fn item_place(item: i32) -> usize
     requires { pos 1 ≤ℤ item }
     ensures { item ≡ pos (result + 1) }
 {

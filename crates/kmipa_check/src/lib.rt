@@ -2,13 +2,16 @@
 #![tactic(auto)]
 
 mod auditing;
+mod births;
 mod call;
 mod checking;
 mod fault;
 mod filling;
+mod grants;
 mod late;
 mod laws;
 mod leaving;
+mod moment;
 mod numbers;
 mod opening;
 mod order;
@@ -27,6 +30,7 @@ pub use call::Call;
 pub use checking::{check, check_calls};
 pub use fault::{CheckFault, Side, StepFault, WitnessFault, WitnessKind};
 pub use filling::needs_fill;
+pub use grants::Grants;
 pub use laws::{
     accepted_audit_is_yes, accepted_behind_is_accepted, accepted_is_explained, accepted_is_yes,
     accepted_since_is_yes, accepted_together_is_accepted, calls_are_timed, filled_is_completed,

@@ -5,7 +5,7 @@ ghost use Rattle.kmipa_record.specs.Marks.{mark_of};
 ghost use Rattle.kmipa_check.specs.Numbers.{Indexes, IndexesBelow, Noted, NotedIfAny, end_number, is_noted, place_in};
 
 use crate::call::Call;
-use kmipa_record::{Fill, Mark, NumberMap, Turn};
+use kmipa_record::{Birth, Fill, Mark, NumberMap, Turn};
 use std::alloc::{AllocError, Global};
 
 /// What may have a number.
@@ -36,6 +36,15 @@ impl Numbered for Turn {
 /// A fill has the number of its item.
 impl Numbered for Fill {
     ghost number_in = { λ fill. Some fill.item };
+
+    fn number(&self) -> Option<i32> {
+        Some(self.item)
+    }
+}
+
+/// So has a birth.
+impl Numbered for Birth {
+    ghost number_in = { λ birth. Some birth.item };
 
     fn number(&self) -> Option<i32> {
         Some(self.item)

@@ -3,6 +3,7 @@
 ghost use Rattle.std.specs.Prelude.{◌≡◌, ◌≢◌, ◌<◌, ◌^◌, pos, ◌≤ℤ◌, All, AllPairs, Some, length, map, IfOk, MatchResult};
 ghost use Rattle.kmipa_record.specs.Witnesses.{turn_of};
 ghost use Rattle.kmipa_check.specs.Calls.{call_of};
+ghost use Rattle.kmipa_check.specs.Grants.{grants_of};
 ghost use Rattle.kmipa_check.specs.Numbers.{Indexes};
 ghost use Rattle.kmipa_check.specs.Ordering.{TurnRefused, fault_at, first_missing};
 ghost use Rattle.kmipa_check.specs.Orders.{IsFormed, IsOrder, AreFormed, OrderFault};
@@ -10,40 +11,53 @@ ghost use Rattle.kmipa_check.specs.Steps.{step_of};
 
 use crate::call::Call;
 use crate::fault::{CheckFault, StepFault, WitnessFault, WitnessKind};
+use crate::grants::Grants;
 use crate::numbers::FirstPlaces;
 use crate::step::Step;
 use crate::turn::step_of_turn;
 use kmipa_record::Turn;
 use std::alloc::Global;
 
-/// The steps that the turns make with the calls, or the first fault of the witness. Where the calls have numbers of their own, from 1 on,
+/// Where numbers first stand.
+#[derive(Drop)]
+struct Numbers {
+    /// Those of the calls.
+    known: FirstPlaces,
+    /// Those that the turns name.
+    named: FirstPlaces,
+}
+
+/// The steps that the turns make with the calls, where this much is granted, or the first fault of the witness. Where the calls have numbers of their own, from 1 on,
 /// the steps take each call once that has ended, and each open one at most once.
 pub fn steps_of<'b, 'a>(
     alloc: Global,
+    grants: &Grants,
     calls: &'b [Call<'a>],
     turns: &'a [Turn],
 ) -> Result<Vec<Step<'b, 'a>>, CheckFault>
     ensures formed { IfOk result
-        (λ steps. AreFormed (map call_of calls.now) (map turn_of turns.now) (length turns.now)
+        (λ steps. AreFormed (grants_of grants.now) (map call_of calls.now) (map turn_of turns.now) (length turns.now)
         (map step_of steps.items)) }
     ensures ordered { All (λ call. pos 1 ≤ℤ call.number) calls.now
         → AllPairs (λ x y. x ≢ y) (map (λ call. call.number) (map call_of calls.now))
         → MatchResult result
-        (λ steps. IsOrder (map call_of calls.now) (map turn_of turns.now) (map step_of steps.items))
-        (OrderFault (map call_of calls.now) (map turn_of turns.now)) }
+        (λ steps. IsOrder (grants_of grants.now) (map call_of calls.now) (map turn_of turns.now)
+        (map step_of steps.items))
+        (OrderFault (grants_of grants.now) (map call_of calls.now) (map turn_of turns.now)) }
 {
     let known = FirstPlaces::of(alloc, calls)?;
     let named = FirstPlaces::of(alloc, turns)?;
+    let numbers = Numbers { known, named };
     let mut steps = Vec::with_capacity(alloc, turns.len())?;
     let mut place = 0;
     'turns: while place < turns.len() {
-        match step_at(alloc, calls, turns, &known, &named, place) {
+        match step_at(alloc, grants, calls, turns, &numbers, place) {
             Ok(step) => steps.push(step)?,
             Err(fault) => return Err(fault_at(place, fault)),
         }
         place += 1;
     }
-    match left_out(calls, &named) {
+    match left_out(calls, &numbers.named) {
         Some(number) => Err(CheckFault::Witness(WitnessFault {
             at: usize::try_from(number).unwrap_or(0),
             kind: WitnessKind::LeftOut,
@@ -55,26 +69,27 @@ pub fn steps_of<'b, 'a>(
 /// The step that the turn at a place makes, or the first fault of the turn.
 fn step_at<'b, 'a>(
     alloc: Global,
+    grants: &Grants,
     calls: &'b [Call<'a>],
     turns: &'a [Turn],
-    known: &FirstPlaces,
-    named: &FirstPlaces,
+    numbers: &Numbers,
     place: usize,
 ) -> Result<Step<'b, 'a>, StepFault>
     requires within { place < length turns.now }
-    requires known { Indexes (map (λ call. Some call.number) calls.now) known.now }
-    requires named { Indexes (map (λ turn. Some turn.call) turns.now) named.now }
-    ensures { MatchResult result (λ step. IsFormed (map call_of calls.now) (map turn_of turns.now) place (step_of step))
-        (TurnRefused (map call_of calls.now) (map turn_of turns.now) place) }
+    requires known { Indexes (map (λ call. Some call.number) calls.now) numbers.now.known }
+    requires named { Indexes (map (λ turn. Some turn.call) turns.now) numbers.now.named }
+    ensures { MatchResult result
+        (λ step. IsFormed (grants_of grants.now) (map call_of calls.now) (map turn_of turns.now) place (step_of step))
+        (TurnRefused (grants_of grants.now) (map call_of calls.now) (map turn_of turns.now) place) }
 {
     let turn = &turns[place];
-    let Some(at) = known.place(turn.call) else {
+    let Some(at) = numbers.known.place(turn.call) else {
         return Err(StepFault::Unfit(WitnessKind::UnknownCall));
     };
-    if !named.is_first(turn.call, place) {
+    if !numbers.named.is_first(turn.call, place) {
         return Err(StepFault::Unfit(WitnessKind::Twice));
     }
-    step_of_turn(alloc, &calls[at], turn)
+    step_of_turn(alloc, grants, &calls[at], turn)
 }
 
 /// The fault of a witness whose turn at a place, counted from 0, makes no step.

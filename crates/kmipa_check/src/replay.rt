@@ -125,7 +125,7 @@ fn refused_call(
     }
 }
 
-/// Whether the Time Stamp of a turn's step is less than that of the turn before.
+/// Whether the moment of a turn's step is less than that of the turn before.
 fn runs_back(steps: &[Step], turn: usize) -> bool
     requires below { turn < length steps.now }
     ensures { (s : StepOf) → slice_get (map step_of steps.now) turn ≡ Some s
@@ -134,7 +134,7 @@ fn runs_back(steps: &[Step], turn: usize) -> bool
     if turn == 0 {
         return false;
     }
-    let now = steps[turn].stamp();
-    let last = steps[turn - 1].stamp();
+    let now = steps[turn].moment();
+    let last = steps[turn - 1].moment();
     now < last
 }

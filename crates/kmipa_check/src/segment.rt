@@ -16,6 +16,7 @@ ghost use Rattle.kmipa_check.specs.Since.{ChecksSince, last_stamp, verdict_told}
 ghost use Rattle.kmipa_check.specs.Steps.{step_of};
 
 use crate::fault::CheckFault;
+use crate::grants::Grants;
 use crate::late::{first_late, is_at};
 use crate::leaving::declaration_left;
 use crate::opening::{open_ledger, rules_of_declaration};
@@ -35,7 +36,7 @@ use std::alloc::Global;
 pub struct Left {
     /// The objects that the server holds behind the run, with its rules.
     pub declaration: Declaration,
-    /// The Time Stamp of the last call, in seconds since 1970; where none was taken, the moment from which the segment was to go on, if any.
+    /// The moment of the last call, in seconds since 1970; where none was taken, the one from which the segment was to go on, if any.
     pub until: Option<i64>,
 }
 
@@ -47,8 +48,8 @@ pub struct Checked {
     pub left: Option<Left>,
 }
 
-/// What `check` answers of a segment that goes on from a moment (in seconds since 1970), with what its run leaves. A first turn whose Time Stamp
-/// is below the moment is refused, as if a turn of that stamp stood ahead of it.
+/// What `check` answers of a segment that goes on from a moment (in seconds since 1970), with what its run leaves. A first turn whose own
+/// moment is below that one is refused, as if a turn of that moment stood ahead of it.
 pub fn check_segment(
     alloc: Global,
     transcript: &Transcript,
@@ -67,7 +68,7 @@ pub fn check_segment(
         (declaration_of left.declaration) left.until)) }
 {
     let calls = read_calls(alloc, transcript)?;
-    let steps = steps_of(alloc, &calls, &witness.turns)?;
+    let steps = steps_of(alloc, &Grants::of(declaration), &calls, &witness.turns)?;
     let rules = rules_of_declaration(alloc, declaration)?;
     let mut ledger = open_ledger(alloc, declaration)?;
     replay_segment(alloc, &mut ledger, &rules, &steps, declaration, since)
@@ -118,7 +119,7 @@ fn no(refused: Refused) -> Checked
     }
 }
 
-/// The refusal of the first turn, where its Time Stamp is below the moment and it isn't refused for a call that comes too late.
+/// The refusal of the first turn, where its own moment is below the one to go on from and it isn't refused for a call that comes too late.
 fn refused_first(steps: &[Step], since: Option<i64>) -> Option<Refused>
     ensures { FirstTold since (map step_of steps.now) result }
 {
@@ -128,18 +129,18 @@ fn refused_first(steps: &[Step], since: Option<i64>) -> Option<Refused>
     let Some(first) = steps.first() else {
         return None;
     };
-    if first.stamp() >= moment || is_at(first_late(steps), 0) {
+    if first.moment() >= moment || is_at(first_late(steps), 0) {
         return None;
     }
     Some(refused_turn(0, first, Why::StampRunsBack))
 }
 
-/// The Time Stamp of the last step, or, where there is none, the moment.
+/// The moment of the last step, or, where there is none, the one to go on from.
 fn last_stamp(steps: &[Step], since: Option<i64>) -> Option<i64>
     ensures { result ≡ last_stamp since (map step_of steps.now) }
 {
     match steps.last() {
-        Some(last) => Some(last.stamp()),
+        Some(last) => Some(last.moment()),
         None => since,
     }
 }

@@ -13,7 +13,10 @@ pub struct Step<'b, 'a> {
     /// The place of its end mark; none of a call that is open.
     pub end: Option<usize>,
     pub request: &'b Request<'a>,
+    /// The response that it is to give. Its stamp is the moment at which the call is taken.
     pub response: Given<'b, 'a>,
+    /// The Time Stamp of the response, as it was recorded or answered.
+    pub stamp: i64,
     /// The places of its items, counted from 1, in the order in which they are taken; `None`: by place.
     pub places: Option<Vec<usize>>,
 }
@@ -33,8 +36,8 @@ impl<'b, 'a> Step<'b, 'a> {
         }
     }
 
-    /// The Time Stamp of the response that it is to give.
-    pub fn stamp(&self) -> i64
+    /// The moment at which the call is taken.
+    pub fn moment(&self) -> i64
         ensures { result ≡ (step_of self.now).response.stamp }
     {
         self.response.response().stamp
@@ -46,13 +49,14 @@ impl<'b, 'a> Step<'b, 'a> {
 pub enum Given<'b, 'a> {
     /// As it was recorded.
     Recorded(&'b Response<'a>),
-    /// As the turn makes it: an answer that it gives, or payloads that it fills in. Few turns do, so it lies in memory of its own.
+    /// As the turn makes it: an answer that it gives, payloads that it fills in, or a moment. Few turns do, so it lies in memory of its own.
     FromTurn(Box<Response<'a>>),
 }
 
 impl<'b, 'a> Given<'b, 'a> {
     ghost use Rattle.std.specs.Prelude.{◌≡◌, IfOk};
     ghost use Rattle.kmipa_msgs.specs.Messages.{response_of};
+    ghost use Rattle.kmipa_check.specs.Moments.{at_moment};
     ghost use Rattle.kmipa_check.specs.Steps.{given_of};
 
     /// A response that a turn makes.
@@ -63,6 +67,19 @@ impl<'b, 'a> Given<'b, 'a> {
         ensures { IfOk result (λ given. given_of given ≡ response_of response.entry) }
     {
         Ok(Given::FromTurn(Box::new(alloc, response)?))
+    }
+
+    /// The response at a moment: itself, where this is its stamp.
+    pub(crate) fn at_moment(self, alloc: Global, moment: i64) -> Result<Given<'b, 'a>, AllocError>
+        ensures { IfOk result (λ given. given_of given ≡ at_moment (given_of self.entry) moment) }
+    {
+        let response = self.response();
+        if response.stamp == moment {
+            return Ok(self);
+        }
+        let mut copy = response.copy(alloc)?;
+        copy.stamp = moment;
+        Given::from_turn(alloc, copy)
     }
 
     /// The response itself.

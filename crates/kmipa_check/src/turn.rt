@@ -6,12 +6,17 @@ ghost use Rattle.kmipa_record.specs.Witnesses.{fill_of, turn_of};
 ghost use Rattle.kmipa_check.specs.Calls.{call_of};
 ghost use Rattle.kmipa_check.specs.Fills.{IsFilled};
 ghost use Rattle.kmipa_check.specs.Filling.{FillsRefused};
+ghost use Rattle.kmipa_check.specs.Grants.{grants_of};
+ghost use Rattle.kmipa_check.specs.Ordering.{AnswerRefused};
 ghost use Rattle.kmipa_check.specs.Orders.{Refuses};
 ghost use Rattle.kmipa_check.specs.Steps.{IsAnswered, IsStep, given_of, step_of};
 
+use crate::births::no_births;
 use crate::call::Call;
 use crate::fault::{StepFault, WitnessKind};
 use crate::filling::{are_wanted, filled, none_missing};
+use crate::grants::Grants;
+use crate::moment::moment_given;
 use crate::numbers::FirstPlaces;
 use crate::places::places_given;
 use crate::reading::answer_in;
@@ -20,35 +25,51 @@ use kmipa_msgs::Request;
 use kmipa_record::{Fill, Turn};
 use std::alloc::Global;
 
-/// The step that a turn makes with the call that it names, or the first fault of what it gives to the call.
+/// The step that a turn makes with the call that it names, where this much is granted, or the first fault of what it gives to the call.
 pub fn step_of_turn<'b, 'a>(
     alloc: Global,
+    grants: &Grants,
     call: &'b Call<'a>,
     turn: &'a Turn,
 ) -> Result<Step<'b, 'a>, StepFault>
     ensures { turn.now.call ≡ call.now.number
-        → MatchResult result (λ step. IsStep (call_of call.now) (turn_of turn.now) (step_of step))
-        (Refuses (call_of call.now) (turn_of turn.now)) }
+        → MatchResult result (λ step. IsStep (grants_of grants.now) (call_of call.now) (turn_of turn.now) (step_of step))
+        (Refuses (grants_of grants.now) (call_of call.now) (turn_of turn.now)) }
 {
     let answered = match answered(alloc, call, turn) {
         Ok(given) => given,
         Err(fault) => return Err(fault),
     };
+    let stamp = answered.response().stamp;
+    let Some(moment) = moment_given(grants, stamp, turn.moment) else {
+        return Err(StepFault::Unfit(WitnessKind::MomentForm));
+    };
     let places = match places_given(alloc, &call.request, answered.response(), &turn.places) {
         Ok(places) => places,
         Err(fault) => return Err(fault),
     };
-    match filled_in(alloc, &call.request, answered, &turn.fills) {
-        Ok(response) => Ok(Step {
-            number: call.number,
-            begin: call.begin,
-            end: call.end,
-            request: &call.request,
-            response,
-            places,
-        }),
-        Err(fault) => Err(fault),
+    // Births are tested by what was recorded, and told of after fills.
+    let births = no_births(alloc, &call.request, answered.response(), &turn.births);
+    let full = match filled_in(alloc, &call.request, answered, &turn.fills) {
+        Ok(given) => given,
+        Err(fault) => return Err(fault),
+    };
+    match births {
+        Ok(()) => {}
+        Err(fault) => return Err(fault),
     }
+    if !turn.asides.is_empty() {
+        return Err(StepFault::Unfit(WitnessKind::AsideForm));
+    }
+    Ok(Step {
+        number: call.number,
+        begin: call.begin,
+        end: call.end,
+        request: &call.request,
+        response: full.at_moment(alloc, moment)?,
+        stamp,
+        places,
+    })
 }
 
 /// The response that a call has by a turn: the recorded one, or that of the turn's answer.
@@ -58,7 +79,7 @@ fn answered<'b, 'a>(
     turn: &'a Turn,
 ) -> Result<Given<'b, 'a>, StepFault>
     ensures { MatchResult result (λ given. IsAnswered (call_of call.now) (turn_of turn.now) (given_of given))
-        (Refuses (call_of call.now) (turn_of turn.now)) }
+        (AnswerRefused (call_of call.now) (turn_of turn.now)) }
 {
     let Some(response) = &call.response else {
         return open_answered(alloc, call, turn);
@@ -77,7 +98,7 @@ fn open_answered<'b, 'a>(
 ) -> Result<Given<'b, 'a>, StepFault>
     requires { (call_of call.now).response ≡ None }
     ensures { MatchResult result (λ given. IsAnswered (call_of call.now) (turn_of turn.now) (given_of given))
-        (Refuses (call_of call.now) (turn_of turn.now)) }
+        (AnswerRefused (call_of call.now) (turn_of turn.now)) }
 {
     let Some(answer) = &turn.answer else {
         return Err(StepFault::Unfit(WitnessKind::AnswerMissing));

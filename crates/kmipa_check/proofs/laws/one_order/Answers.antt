@@ -5,4 +5,4 @@ use Rattle.kmipa_check.proofs.WholeOrderLemmas.{number_of, one_order_lem}
 use Rattle.kmipa_check.proofs.laws.one_order.Goals as goal
 
 pub returns : goal.returns
-returns c = λ marks calls turns steps others r are o p. one_order_lem calls turns steps others (once_pairs (map number_of calls) (calls_once marks calls r are)) o p
+returns c = λ g marks calls turns steps others r are o p. one_order_lem g calls turns steps others (once_pairs (map number_of calls) (calls_once marks calls r are)) o p
