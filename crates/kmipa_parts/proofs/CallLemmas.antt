@@ -4,8 +4,8 @@ use Rattle.std.specs.List.{zip, filter_map, AllZip}
 use Rattle.kmipa_object.specs.Inventory.{Thing}
 use Rattle.kmipa_msgs.specs.declared.request.BatchOption.{BatchOption}
 use Rattle.kmipa_msgs.specs.declared.response.Status.{Status}
-use Rattle.kmipa_msgs.specs.declared.response.Status.TheVariants.{Success, Failed, Undone}
-use Rattle.kmipa_msgs.specs.Messages.{RulesOf, AskOf, AnswerOf, ResponseOf}
+use Rattle.kmipa_msgs.specs.declared.response.Status.TheVariants.{Failed}
+use Rattle.kmipa_msgs.specs.Messages.{RulesOf, AskOf, AnswerOf}
 use Rattle.kmipa_ops.specs.Chains.{ChainSome}
 use Rattle.kmipa_batch.specs.Calls.{Leaves, RefusesMessage, CallSome, CallSomeAlong}
 use Rattle.kmipa_batch.specs.Calls.Leaves.{goes_back, goes_on}
@@ -17,9 +17,10 @@ use Rattle.kmipa_batch.proofs.ShapeLemmas.{Alike, none_alike, first_alike, shape
 use Rattle.kmipa_check.specs.Steps.{StepOf, order_of}
 use Rattle.kmipa_check.specs.Runs.{Linked}
 use Rattle.kmipa_check.proofs.PlaceLemmas.{contains_at, at_contains}
-use Rattle.kmipa_parts.specs.Parts.{cut, held_after, IsPart, stays, lists, idle, ArePartItems, AllLeaveBe, IsPartOf, IsElsewhere, IsPartOrNone}
+use Rattle.kmipa_parts.specs.Parts.{cut, held_after, IsPart, stays, lists, idle, ArePartItems, AllLeaveBe, IsPartOf, IsElsewhere, left_be, untouched, IsPartOrNone}
 use Rattle.kmipa_parts.specs.Laws.{AreReadableCalls, RunProjects}
 use Rattle.kmipa_parts.proofs.ItemLemmas.{part_does, leaves_be, held_some}
+use Rattle.kmipa_parts.proofs.UntouchedLemmas.{refuses_or_not, call_untouched}
 
 -- ---- items, one after the other
 
@@ -101,23 +102,6 @@ parts_refuse id before (ask ∷ asks) answer (part ∷ parts) [] p fails unnamed
 parts_refuse id before (ask ∷ asks) answer (part ∷ parts) (seen ∷ shown) p fails unnamed =
     (seen, ap (λ (xs : List AnswerOf). seen ∷ xs) p.1.1, part_status id before ask answer part seen p.0 ∙ fails, part_unnamed id before ask answer part seen p.0 unnamed)
 
-refuses_or_not : (response : ResponseOf) → RefusesMessage response ⊎ (RefusesMessage response → ⊥)
-refuses_or_not response = by response.items refl
-  where
-    by : (items : List AnswerOf) → response.items ≡ items → RefusesMessage response ⊎ (RefusesMessage response → ⊥)
-    by [] e = inr (λ r. let both : [] ≡ r.answer ∷ [] = sym e ∙ r.alone in let bad : ⊥ = cc in bad)
-    by (a ∷ b ∷ items) e = inr (λ r. let both : a ∷ b ∷ items ≡ r.answer ∷ [] = sym e ∙ r.alone in let bad : ⊥ = cc in bad)
-    by (a ∷ []) e = failing a.status a.operation refl refl
-      where
-        mine : (r : RefusesMessage response) → a ≡ r.answer
-        mine r = let both : a ∷ [] ≡ r.answer ∷ [] = sym e ∙ r.alone in cc
-
-        failing : (s : Status) (o : Option ℕ) → a.status ≡ s → a.operation ≡ o → RefusesMessage response ⊎ (RefusesMessage response → ⊥)
-        failing Failed None f u = inl (record { answer = a; alone = e; failed = f; unnamed = u })
-        failing Failed (Some x) f u = inr (λ r. let both : Some x ≡ None = sym u ∙ ap (λ (y : AnswerOf). y.operation) (mine r) ∙ r.unnamed in let bad : ⊥ = cc in bad)
-        failing Success o f u = inr (λ r. let both : Success ≡ Failed = sym f ∙ ap (λ (y : AnswerOf). y.status) (mine r) ∙ r.failed in let bad : ⊥ = cc in bad)
-        failing Undone o f u = inr (λ r. let both : Undone ≡ Failed = sym f ∙ ap (λ (y : AnswerOf). y.status) (mine r) ∙ r.failed in let bad : ⊥ = cc in bad)
-
 -- ---- a call
 
 leaves_alike : (option : BatchOption) (xs ys : List AnswerOf) (V M W : List Thing) → Alike xs ys → Leaves option xs V M W → Leaves option ys V M W
@@ -166,15 +150,19 @@ module _ (rules : RulesOf) (id : List ℕ) (V : List Thing) (c : StepOf) (W : Li
                 subst L (sym p.option) (leaves_alike c.request.option c.response.items part.response.items (cut id V) (cut id b.last) (cut id W) alike (leaves_part id c.request.option c.response.items V b.last W b.leaves)));
           })
 
-  call_elsewhere : IsElsewhere id c → cut id W ≡ cut id V
-  call_elsewhere p = by (refuses_or_not c.response)
+  call_left_be : AllLeaveBe id None c.request.items c.response.items → cut id W ≡ cut id V
+  call_left_be be = by (refuses_or_not c.response)
     where
       by : RefusesMessage c.response ⊎ (RefusesMessage c.response → ⊥) → cut id W ≡ cut id V
       by (inl r) = ap (cut id) (refused_leaves rules V c.request c.response W r placed)
       by (inr unrefused) =
           let b = batch_of_call rules V c.request c.response None W unrefused placed in
-          let e = chain_elsewhere rules c.response.stamp id V None c.request.items c.response.items b.last b.placeholder (readable unrefused) p.items b.chain in
+          let e = chain_elsewhere rules c.response.stamp id V None c.request.items c.response.items b.last b.placeholder (readable unrefused) be b.chain in
           (elim b.leaves [ goes_back undo f first is ↦ ap (cut id) is | goes_on none is ↦ ap (cut id) is ∙ e ])
+
+call_elsewhere : (rules : RulesOf) (id : List ℕ) (V : List Thing) (c : StepOf) (W : List Thing) → IsReadableCall c.request c.response → CallSomeAlong rules V c.request c.response (order_of c) W → IsElsewhere id c → cut id W ≡ cut id V
+call_elsewhere rules id V c W readable d (left_be by_place be) = call_left_be rules id V c W readable by_place d be
+call_elsewhere rules id V c W readable d (untouched apart) = call_untouched rules id V c W readable apart d
 
 -- ---- calls, one after the other
 
@@ -193,7 +181,7 @@ linked_parts rules id V W (c ∷ calls) (Some part ∷ each) r z l =
     (cut id l.0, call_part rules id V c l.0 (first_readable c calls r) z.0.by_place l.1 part z.0, linked_parts rules id l.0 W calls each (others_readable c calls r) z.1 l.2)
 linked_parts rules id V W (c ∷ calls) (None ∷ each) r z l =
     let P : List Thing → Type 0 = λ X. Linked rules X (filter_map (λ (part : Option StepOf). part) each) (cut id W) in
-    subst P (call_elsewhere rules id V c l.0 (first_readable c calls r) z.0.by_place l.1 z.0) (linked_parts rules id l.0 W calls each (others_readable c calls r) z.1 l.2)
+    subst P (call_elsewhere rules id V c l.0 (first_readable c calls r) l.1 z.0) (linked_parts rules id l.0 W calls each (others_readable c calls r) z.1 l.2)
 
 pub run_projects_lem : RunProjects
 run_projects_lem rules id V W calls parts readable p l =

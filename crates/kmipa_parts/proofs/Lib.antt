@@ -1,5 +1,6 @@
 pub mod CutLemmas
 pub mod ItemLemmas
+pub mod UntouchedLemmas
 pub mod CallLemmas
 pub mod RunLemmas
 pub mod MakingLemmas

@@ -6,7 +6,7 @@ use Rattle.kmipa_attrs.specs.Filters.{FilterOf}
 use Rattle.kmipa_object.specs.Inventory.{Thing}
 use Rattle.kmipa_msgs.specs.declared.response.Status.{Status}
 use Rattle.kmipa_msgs.specs.declared.response.Status.TheVariants.{Success, Failed, Undone}
-use Rattle.kmipa_msgs.specs.Messages.{AskedOf, creates, registers, locates, gets, gets_attributes, activates, revokes, destroys, idles, AskOf, PayloadOf, located, AnswerOf, RegisteredOf}
+use Rattle.kmipa_msgs.specs.Messages.{AskedOf, creates, registers, locates, gets, gets_attributes, activates, revokes, destroys, idles, AskOf, PayloadOf, located, AnswerOf, RegisteredOf, RequestOf}
 use Rattle.kmipa_ops.specs.Create.{seen_created}
 use Rattle.kmipa_ops.specs.Register.{seen_registered}
 use Rattle.kmipa_ops.specs.Locate.{is_full}
@@ -94,6 +94,34 @@ pub data IsPart (id : List ℕ) (before : Option (List ℕ)) (ask : AskOf) (answ
       → part ≡ ask → shown ≡ record answer { payload = Some (located (only_this id listed)) } → IsPart id before ask answer part shown
   idle : LeavesBe id before ask answer → IsIdle answer.status part shown → IsPart id before ask answer part shown
 
+-- TOUCH
+
+-- this identifier is named, or none is
+abbrev pub may_mean : List ℕ → Option (List ℕ) → Bool
+may_mean id None = true
+may_mean id (Some named) = bytes_eq id named
+
+-- An item may touch an object, whatever it is answered: it names the object, or no identifier (the ID Placeholder may hold this one); or it makes
+-- an object, which may be this one; or it lists. [profile]
+abbrev pub may_touch : List ℕ → AskedOf → Bool
+may_touch id (creates a) = true
+may_touch id (registers r) = true
+may_touch id (locates q) = true
+may_touch id (gets named) = may_mean id named
+may_touch id (gets_attributes g) = may_mean id g.id
+may_touch id (activates named) = may_mean id named
+may_touch id (revokes r) = may_mean id r.id
+may_touch id (destroys named) = may_mean id named
+may_touch id asked = false
+
+-- one of these items may touch an object
+abbrev pub SomeMayTouch : List ℕ → List AskOf → Type 0
+SomeMayTouch id asks = (ask : AskOf) × Contains asks ask × (may_touch id ask.asked ≡ true)
+
+-- a call may touch it: one of its items may
+abbrev pub MayTouch : List ℕ → RequestOf → Type 0
+MayTouch id request = SomeMayTouch id request.items
+
 -- CALLS
 
 -- the parts of the items of a call, one after the other; there are as many items without an answer, and as many answers without an item
@@ -121,10 +149,11 @@ pub record IsPartOf (id : List ℕ) (call part : StepOf) : Type 0 where
   pub option : part.request.option ≡ call.request.option
   pub items : ArePartItems id None call.request.items call.response.items part.request.items part.response.items
 
--- a call by place that leaves the object as it is
-pub record IsElsewhere (id : List ℕ) (call : StepOf) : Type 0 where
-  pub by_place : call.places ≡ None
-  pub items : AllLeaveBe id None call.request.items call.response.items
+-- A call that leaves the object as it is: it is taken by place, and each of its items does; or no item of it may touch the object, in whatever
+-- order they are taken.
+pub data IsElsewhere (id : List ℕ) (call : StepOf) : Type 0 where
+  left_be : call.places ≡ None → AllLeaveBe id None call.request.items call.response.items → IsElsewhere id call
+  untouched : (MayTouch id call.request → ⊥) → IsElsewhere id call
 
 -- a call's part on the object; or none, where the call leaves the object as it is
 abbrev pub IsPartOrNone : List ℕ → StepOf → Option StepOf → Type 0

@@ -6,7 +6,9 @@ mod copies;
 mod item;
 mod laws;
 mod subject;
+mod touching;
 
 pub use call::{Part, leave_be, part_of};
 pub use laws::{parts_are_placed, run_projects};
 pub use subject::{about, held_after};
+pub use touching::may_touch;

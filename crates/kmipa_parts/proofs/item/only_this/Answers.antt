@@ -1,4 +1,4 @@
-use Rattle.std.proofs.Common.{◌≡◌, ◌∙◌, ◌+◌, ℕ, List, [], Vec, Global, map, take, get_or, sym, ap, subst}
+use Rattle.std.proofs.Common.{◌≡◌, ◌∙◌, ℕ, List, [], Vec, Global, map, take, get_or, sym, ap, subst}
 use Rattle.std.proofs.lemmas.List.{take_more}
 use Rattle.kmipa_msgs.specs.Messages.{lent}
 use Rattle.kmipa_parts.specs.Parts.{only_this}
