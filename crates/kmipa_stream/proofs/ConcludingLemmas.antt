@@ -1,8 +1,9 @@
 -- What is known once all marks have come.
-use Rattle.std.proofs.Common.{◌≡◌, ◌≤◌, ◌<◌, ◌⊎◌, inl, inr, ℕ, zero, suc, ◌+◌, ℤ, pos, ◌≤ℤ◌, Bool, true, false, List, [], map, length, Contains, Option, Some, None, slice_get, Result, Ok, Err, refl, sym, ap, ◌∙◌, subst, arith, add-one}
+use Rattle.std.proofs.Common.{◌≡◌, ◌≤◌, ◌<◌, ◌⊎◌, inl, inr, ℕ, zero, suc, ◌+◌, ℤ, pos, ◌≤ℤ◌, Bool, true, false, List, [], map, length, take, Contains, Option, Some, None, slice_get, Result, Ok, Err, refl, sym, ap, ◌∙◌, subst, arith, add-one}
 use Rattle.std.specs.Prelude.{MatchResult, not}
-use Rattle.std.proofs.lemmas.List.{length-map}
+use Rattle.std.proofs.lemmas.List.{length-map, take_all}
 use Rattle.std.proofs.lemmas.Option.{slice_get_within, get_or_from_slice_get}
+use Rattle.kmipa_ttlv.specs.Stream.{capped}
 use Rattle.kmipa_record.specs.Declarations.{DeclarationOf}
 use Rattle.kmipa_record.specs.Marks.{MarkOf, begins, ends, begun, AreRecorded, IsCallNumber}
 use Rattle.kmipa_record.specs.Marks as marked
@@ -10,6 +11,7 @@ use Rattle.kmipa_record.specs.Witnesses.{TurnOf, turn_of}
 use Rattle.kmipa_record.specs.declared.turn.Turn.{Turn}
 use Rattle.kmipa_check.specs.CallReading.{AreReadUpTo}
 use Rattle.kmipa_check.specs.Calls.{CallOf, AreCalls, HasBegin, HasEnd, IsRecorded, IsFirstOutside}
+use Rattle.kmipa_check.specs.Grants.{GrantsOf, grants_declared}
 use Rattle.kmipa_check.specs.Orders.{IsNamed, AreFormedBelow, IsOrder, WitnessFaultAt, left_out, AreFormed}
 use Rattle.kmipa_check.specs.Deciding.{Decided}
 use Rattle.kmipa_check.specs.Replays.{Replayed}
@@ -29,6 +31,7 @@ use Rattle.kmipa_check.proofs.RecordedLemmas.{recorded_at}
 use Rattle.kmipa_check.proofs.ReplayLemmas.{replayed_accepts}
 use Rattle.kmipa_check.proofs.WholeOrderLemmas.{number_of, order_takes}
 use Rattle.kmipa_stream.specs.Ahead.{WasRead, IsFound}
+use Rattle.kmipa_stream.specs.Counting.{items_in}
 use Rattle.kmipa_stream.specs.Replaying.{FindsSo, IsAtEnd, meaning_in}
 use Rattle.kmipa_stream.specs.Seeing.{EndsSo, AreSeen}
 use Rattle.kmipa_stream.specs.Standing.{WereRead, Stands, AreAllReleased, IsDone, IsDoneBy, IsUnnamed, NoneUnnamed, IsFirstLeftOut, Judges, TellsLeftOut}
@@ -125,8 +128,8 @@ module _ (marks : List MarkOf) (r : AreRecorded marks) (seen : Seen) (are : AreS
       by None e {a} h = let P : Option ℕ → Type 0 = λ o. EndsSo marks s.number o in absurd (subst P e (are.each place s at).ended end a h)
       by (Some x) e h = (x, e)
 
-  module _ (turns : List Turn) (formed : AreFormedBelow calls (map turn_of turns) (length (map turn_of turns))) where
-    pub left_out_told : (number : ℤ) (at : ℕ) → IsFirstLeftOut turns seen.calls.items (Some number) → number ≡ pos at → WitnessFaultAt calls (map turn_of turns) at LeftOut
+  module _ (g : GrantsOf) (turns : List Turn) (formed : AreFormedBelow g calls (map turn_of turns) (length (map turn_of turns))) where
+    pub left_out_told : (number : ℤ) (at : ℕ) → IsFirstLeftOut turns seen.calls.items (Some number) → number ≡ pos at → WitnessFaultAt g calls (map turn_of turns) at LeftOut
     left_out_told number at first is =
         let place = first.0 in
         let s = first.1.0 in
@@ -154,18 +157,18 @@ module _ (marks : List MarkOf) (r : AreRecorded marks) (seen : Seen) (are : AreS
 
 -- ---- the order
 
-pub formed_list : (calls : List CallOf) (turns : List TurnOf) (count : ℕ) → AreFormedBelow calls turns count → (steps : List StepOf) × AreFormed calls turns count steps
-formed_list calls turns zero h = ([], formed_none calls turns)
-formed_list calls turns (suc count) h =
-    let f = formed_list calls turns count (λ place below. h place (omega (arith, below))) in
+pub formed_list : (g : GrantsOf) (calls : List CallOf) (turns : List TurnOf) (count : ℕ) → AreFormedBelow g calls turns count → (steps : List StepOf) × AreFormed g calls turns count steps
+formed_list g calls turns zero h = ([], formed_none g calls turns)
+formed_list g calls turns (suc count) h =
+    let f = formed_list g calls turns count (λ place below. h place (omega (arith, below))) in
     let s = h count (omega arith) in
-    let P : ℕ → Type 0 = λ n. (steps : List StepOf) × AreFormed calls turns n steps in
-    subst P (add-one count) (_, formed_more calls turns count f.0 s.0 f.1 s.1)
+    let P : ℕ → Type 0 = λ n. (steps : List StepOf) × AreFormed g calls turns n steps in
+    subst P (add-one count) (_, formed_more g calls turns count f.0 s.0 f.1 s.1)
 
-pub whole_order : (calls : List CallOf) (turns : List TurnOf) → AreFormedBelow calls turns (length turns) → ((c : CallOf) (end : ℕ) → Contains calls c → c.end ≡ Some end → IsNamed turns c.number)
-    → (order : List StepOf) × IsOrder calls turns order
-whole_order calls turns formed all =
-    let f = formed_list calls turns (length turns) formed in
+pub whole_order : (g : GrantsOf) (calls : List CallOf) (turns : List TurnOf) → AreFormedBelow g calls turns (length turns) → ((c : CallOf) (end : ℕ) → Contains calls c → c.end ≡ Some end → IsNamed turns c.number)
+    → (order : List StepOf) × IsOrder g calls turns order
+whole_order g calls turns formed all =
+    let f = formed_list g calls turns (length turns) formed in
     (f.0, record { counted = f.1.counted; formed = f.1.each; all = all })
 
 -- ---- the verdict
@@ -183,8 +186,8 @@ module _ (marks : List MarkOf) (turns : List Turn) (declared : DeclarationOf) (a
   calls_there : (calls : List CallOf) × AreCalls marks calls
   calls_there = all_inside marks r a.seen s.seen all a.lowest s.read none
 
-  finds : (f : Finding) → a.replay.finding ≡ f → FindsSo true marks turns declared a.replay.formed a.replay.last (meaning_in a.replay.ledger) f
-  finds f is = let P : Finding → Type 0 = λ x. FindsSo true marks turns declared a.replay.formed a.replay.last (meaning_in a.replay.ledger) x in subst P is s.replay.finding
+  finds : (f : Finding) → a.replay.finding ≡ f → FindsSo true marks turns declared a.replay.formed a.replay.last a.replay.items (meaning_in a.replay.ledger) f
+  finds f is = let P : Finding → Type 0 = λ x. FindsSo true marks turns declared a.replay.formed a.replay.last a.replay.items (meaning_in a.replay.ledger) x in subst P is s.replay.finding
 
   -- a faulty witness
   pub faulty_told : (f : WitnessFault) → a.replay.finding ≡ Faulty f → Judges marks declared (map turn_of turns) (Err (check_fault.Witness f))
@@ -204,15 +207,15 @@ module _ (marks : List MarkOf) (turns : List Turn) (declared : DeclarationOf) (a
         by (No refused stamp) is h = here h
         by (Faulty f) is h = absurd (right f is)
 
-    formed_all : AreFormedBelow calls_there.0 (map turn_of turns) (length (map turn_of turns))
+    formed_all : AreFormedBelow (grants_declared declared) calls_there.0 (map turn_of turns) (length (map turn_of turns))
     formed_all = λ place below. s.replay.formed marks calls_there.0 (ahead_itself marks r) calls_there.1 place (omega (arith, below, length-map turns turn_of, long))
 
     -- a call that is left out
     pub left_told : (number : ℤ) (f : WitnessFault) → IsFirstLeftOut turns a.seen.calls.items (Some number) → number ≡ pos f.at → f.kind ≡ LeftOut
         → Judges marks declared (map turn_of turns) (Err (check_fault.Witness f))
     left_told number f first is kind =
-        let P : WitnessKind → Type 0 = λ k. WitnessFaultAt calls_there.0 (map turn_of turns) f.at k in
-        (calls_there.0, calls_there.1, subst P (sym kind) (left_out_told marks r a.seen s.seen calls_there.0 calls_there.1 turns formed_all number f.at first is))
+        let P : WitnessKind → Type 0 = λ k. WitnessFaultAt (grants_declared declared) calls_there.0 (map turn_of turns) f.at k in
+        (calls_there.0, calls_there.1, subst P (sym kind) (left_out_told marks r a.seen s.seen calls_there.0 calls_there.1 (grants_declared declared) turns formed_all number f.at first is))
 
     pub left_counted : (number : ℤ) → IsFirstLeftOut turns a.seen.calls.items (Some number) → pos 1 ≤ℤ number
     left_counted number first =
@@ -230,27 +233,31 @@ module _ (marks : List MarkOf) (turns : List Turn) (declared : DeclarationOf) (a
     unless_told stamped (Err check_fault.Memory) h told_whole = tt
 
     module _ (whole : IsFirstLeftOut turns a.seen.calls.items None) where
-      order_there : (order : List StepOf) × IsOrder calls_there.0 (map turn_of turns) order
+      order_there : (order : List StepOf) × IsOrder (grants_declared declared) calls_there.0 (map turn_of turns) order
       order_there =
-          whole_order calls_there.0 (map turn_of turns) formed_all (none_left_out marks r a.seen s.seen calls_there.0 calls_there.1 turns formed_all a.replay.named s.replay.named whole)
+          whole_order (grants_declared declared) calls_there.0 (map turn_of turns) formed_all
+          (none_left_out marks r a.seen s.seen calls_there.0 calls_there.1 (grants_declared declared) turns formed_all a.replay.named s.replay.named whole)
 
-      pub no_told : (refused : Refused) (stamp : ℤ) → a.replay.finding ≡ No refused stamp
-          → Judges marks declared (map turn_of turns) (Ok (record { verdict = verdict.No refused; stamp = Some stamp }))
-      no_told refused stamp is =
+      pub no_told : (refused : Refused) (stamp : ℤ) (items : ℕ) → a.replay.finding ≡ No refused stamp
+          → Judges marks declared (map turn_of turns) (Ok (record { verdict = verdict.No refused; stamp = Some stamp; items = items }))
+      no_told refused stamp items is =
           let f = finds (No refused stamp) is in (
             (calls_there.0, calls_there.1, (order_there.0, order_there.1, f.0 marks calls_there.0 order_there.0 (ahead_itself marks r) calls_there.1 order_there.1)),
             (stamp, refl, f.1 marks (ahead_itself marks r)),
+            tt,
           )
 
-      pub yes_told : a.replay.finding ≡ Possible → Judges marks declared (map turn_of turns) (Ok (record { verdict = verdict.Yes; stamp = None }))
+      pub yes_told : a.replay.finding ≡ Possible → Judges marks declared (map turn_of turns) (Ok (record { verdict = verdict.Yes; stamp = None; items = a.replay.items }))
       yes_told is =
           let f = finds Possible is in
           let g = f.1 marks calls_there.0 order_there.0 (ahead_itself marks r) calls_there.1 order_there.1 in
           let P : ℕ → Type 0 = λ n. Replayed declared order_there.0 n (meaning_in a.replay.ledger) in
-          let same : a.replay.formed ≡ length order_there.0 = omega (arith, long, s.replay.within, order_there.1.counted, length-map turns turn_of) in (
+          let same : a.replay.formed ≡ length order_there.0 = omega (arith, long, s.replay.within, order_there.1.counted, length-map turns turn_of) in
+          let all : take a.replay.formed order_there.0 ≡ order_there.0 = take_all a.replay.formed order_there.0 (omega (arith, same)) in (
             replayed_accepts marks declared (map turn_of turns) calls_there.0 order_there.0 (meaning_in a.replay.ledger) calls_there.1 order_there.1
-                (order_takes calls_there.0 (map turn_of turns) order_there.0 order_there.1) (subst P same g.replayed),
+                (order_takes (grants_declared declared) calls_there.0 (map turn_of turns) order_there.0 order_there.1) (subst P same g.replayed),
             tt,
+            record { calls = calls_there.0; are = calls_there.1; steps = order_there.0; order = order_there.1; counted = g.counted ∙ ap (λ (steps : List StepOf). capped (items_in steps)) all },
           )
 
 -- a message that is outside

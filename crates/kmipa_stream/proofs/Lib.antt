@@ -4,6 +4,7 @@ pub mod SeeingLemmas
 pub mod WaitingLemmas
 pub mod ReadingLemmas
 pub mod OrderLemmas
+pub mod CountingLemmas
 pub mod ReplayingLemmas
 pub mod StandingLemmas
 pub mod ConcludingLemmas

@@ -9,6 +9,7 @@ use Rattle.kmipa_record.specs.Marks.{MarkOf, AreRecorded}
 use Rattle.kmipa_record.specs.Witnesses.{TurnOf, turn_of}
 use Rattle.kmipa_record.specs.declared.turn.Turn.{Turn}
 use Rattle.kmipa_check.specs.Calls.{CallOf, AreCalls, IsRecorded, IsEnded, has_ended, is_open, HasEnd, HasBegin}
+use Rattle.kmipa_check.specs.Grants.{GrantsOf}
 use Rattle.kmipa_check.specs.Late.{is_below}
 use Rattle.kmipa_check.specs.Orders.{NamesAt, NamesBefore, IsFormed, IsOrder}
 use Rattle.kmipa_check.specs.Deciding.{Decided}
@@ -21,7 +22,7 @@ use Rattle.kmipa_check.proofs.CheckLemmas.{calls_once}
 use Rattle.kmipa_check.proofs.RecordedLemmas.{begun_has, same_recorded, same_end, recorded_at}
 use Rattle.kmipa_check.proofs.WholeOrderLemmas.{number_of, same_call, one_step_lem}
 use Rattle.kmipa_stream.specs.Ahead.{IsAhead}
-use Rattle.kmipa_stream.specs.Steps.{IsLastStamp, is_less}
+use Rattle.kmipa_stream.specs.Steps.{IsLastMoment, is_less}
 use Rattle.kmipa_stream.specs.Waiting.{IsFirstWaiting}
 use Rattle.kmipa_stream.proofs.AheadLemmas.{end_ahead, end_behind}
 use Rattle.kmipa_stream.proofs.SeeingLemmas.{has_begun}
@@ -61,23 +62,23 @@ module _ (all : List MarkOf) (r : AreRecorded all) (calls : List CallOf) (are : 
   end_noted c end answered h (has_ended e a x k says close is) = close ∙ ap Some (same_end all c.number e end a answered r k h).0
   end_noted c end answered h (is_open none close is) = absurd (none end answered h)
 
-  module _ (turns : List TurnOf) (order : List StepOf) (o : IsOrder calls turns order) where
+  module _ (g : GrantsOf) (turns : List TurnOf) (order : List StepOf) (o : IsOrder g calls turns order) where
     -- a turn that is formed made the order's step
-    pub same_step : (place : ℕ) (s : StepOf) → IsFormed calls turns place s → slice_get order place ≡ Some s
+    pub same_step : (place : ℕ) (s : StepOf) → IsFormed g calls turns place s → slice_get order place ≡ Some s
     same_step place s f =
         let u = some_at order place (omega (arith, slice_get_within turns place f.turn f.there, o.counted)) in
-        let g = o.formed place u.0 u.1 in
+        let h = o.formed place u.0 u.1 in
         let here = f.there in
-        let there = g.there in
-        let turn : g.turn ≡ f.turn = cc in
+        let there = h.there in
+        let turn : h.turn ≡ f.turn = cc in
         let a = at_contains calls f.call f.known in
-        let b = at_contains calls g.call g.known in
-        let call : g.call ≡ f.call = same_call calls its_numbers b.0 a.0 g.call f.call b.1 a.1 (sym g.step.named ∙ ap (λ (t : TurnOf). t.call) turn ∙ f.step.named) in
-        let P : CallOf → Type 0 = λ c. IsStep c g.turn u.0 in
-        let Q : TurnOf → Type 0 = λ t. IsStep f.call t u.0 in
-        u.1 ∙ ap Some (one_step_lem f.call f.turn u.0 s (subst Q turn (subst P call g.step)) f.step)
+        let b = at_contains calls h.call h.known in
+        let call : h.call ≡ f.call = same_call calls its_numbers b.0 a.0 h.call f.call b.1 a.1 (sym h.step.named ∙ ap (λ (t : TurnOf). t.call) turn ∙ f.step.named) in
+        let P : CallOf → Type 0 = λ c. IsStep g c h.turn u.0 in
+        let Q : TurnOf → Type 0 = λ t. IsStep g f.call t u.0 in
+        u.1 ∙ ap Some (one_step_lem g f.call f.turn u.0 s (subst Q turn (subst P call h.step)) f.step)
 
-    step_end : (place : ℕ) (d : StepOf) (f : IsFormed calls turns place d) → d.end ≡ f.call.end
+    step_end : (place : ℕ) (d : StepOf) (f : IsFormed g calls turns place d) → d.end ≡ f.call.end
     step_end place d f = ap (λ (x : StepOf). x.end) f.step.is
 
     module _ (closed : Bool) (marks : List MarkOf) (a : IsAhead closed marks all) (k : ℕ) (s : StepOf) (there : slice_get order k ≡ Some s) (within : s.begin ≤ length marks) where
@@ -88,7 +89,7 @@ module _ (all : List MarkOf) (r : AreRecorded all) (calls : List CallOf) (are : 
           let f = o.formed late.0 d late.3 in
           by d f d.end refl late.4
         where
-          by : (d : StepOf) (f : IsFormed calls turns late.0 d) (e : Option ℕ) → d.end ≡ e → EndsAhead e s.begin
+          by : (d : StepOf) (f : IsFormed g calls turns late.0 d) (e : Option ℕ) → d.end ≡ e → EndsAhead e s.begin
               → (n : ℤ) × (end : ℕ) × (answered : List ℕ) × HasEnd marks n end answered × (end < s.begin) × (NamesBefore turns (suc k) n → ⊥)
           by d f None is before = absurd before
           by d f (Some end) is before =
@@ -125,7 +126,7 @@ module _ (all : List MarkOf) (r : AreRecorded all) (calls : List CallOf) (are : 
             u.0,
             elim (Rattle.kmipa_check.proofs.PlaceLemmas.apart k named.0) [
               | inl x ↦ x
-              | inr g ↦ absurd (waits (named.0, (let y : named.0 ≤ k = elim g [ inl y ↦ omega (arith, y) | inr y ↦ omega (arith, y) ] in omega (arith, y)), (named.1.0, named.1.1, named.1.2 ∙ c.3)))
+              | inr x ↦ absurd (waits (named.0, (let y : named.0 ≤ k = elim x [ inl y ↦ omega (arith, y) | inr y ↦ omega (arith, y) ] in omega (arith, y)), (named.1.0, named.1.1, named.1.2 ∙ c.3)))
             ],
             u.1,
             subst Q (sym ends) before,
@@ -151,7 +152,7 @@ module _ (all : List MarkOf) (r : AreRecorded all) (calls : List CallOf) (are : 
               let above : s.begin ≤ place = grind (arith, nat_tests) in
               w.5 (named_so w.0 (first.0 w.0 w.1 w.2 w.3 (omega (arith, above, w.4))))
 
--- a stamp that runs back
+-- a moment that runs back
 less_decided : (x y : ℤ) → Decided (int_lt x y) (x <ℤ y)
 less_decided x y = by (int_lt x y) refl
   where
@@ -159,11 +160,11 @@ less_decided x y = by (int_lt x y) refl
     by true e = omega (arith, ints)
     by false e = λ h. clash_ℤ h (omega (arith, ints))
 
-pub back_decided : (order : List StepOf) (k : ℕ) (s : StepOf) (last : Option ℤ) → IsLastStamp order k last → Decided (is_less s.response.stamp last) (RunsBack order k s)
+pub back_decided : (order : List StepOf) (k : ℕ) (s : StepOf) (last : Option ℤ) → IsLastMoment order k last → Decided (is_less s.response.stamp last) (RunsBack order k s)
 back_decided order k s None none = λ back. omega (arith, none, back.2)
-back_decided order k s (Some stamp) at = by (int_lt s.response.stamp stamp) refl (less_decided s.response.stamp stamp)
+back_decided order k s (Some moment) at = by (int_lt s.response.stamp moment) refl (less_decided s.response.stamp moment)
   where
-    by : (b : Bool) → int_lt s.response.stamp stamp ≡ b → Decided b (s.response.stamp <ℤ stamp) → Decided b (RunsBack order k s)
+    by : (b : Bool) → int_lt s.response.stamp moment ≡ b → Decided b (s.response.stamp <ℤ moment) → Decided b (RunsBack order k s)
     by true e less = let P : ℤ → Type 0 = λ z. s.response.stamp <ℤ z in (at.0, at.1, at.2, at.3, subst P (sym at.4) less)
     by false e least = λ back.
         let place : back.0 ≡ at.0 = omega (arith, back.2, at.2) in

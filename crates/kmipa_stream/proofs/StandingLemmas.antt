@@ -39,19 +39,20 @@ module _ (closed closed' : Bool) (marks marks' : List MarkOf) (less : (all : Lis
   read_on lowest begin (inr found) = inr found
 
   module _ (turns : List Turn) (declared : DeclarationOf) where
-    finds_on : (count : ℕ) (last : Option ℤ) (m : Meaning) (f : Finding) → FindsSo closed marks turns declared count last m f → FindsSo closed' marks' turns declared count last m f
-    finds_on count last m Possible h = (h.0, λ all calls order a are o. h.1 all calls order (less all a) are o)
-    finds_on count last m (No refused stamp) h = ((λ all calls order a are o. h.0 all calls order (less all a) are o), (λ all a. h.1 all (less all a)))
-    finds_on count last m (Faulty f) h = λ all calls a are. h all calls (less all a) are
+    finds_on : (count : ℕ) (last : Option ℤ) (items : ℕ) (m : Meaning) (f : Finding) → FindsSo closed marks turns declared count last items m f → FindsSo closed' marks' turns declared count last items m f
+    finds_on count last items m Possible h = (h.0, λ all calls order a are o. h.1 all calls order (less all a) are o)
+    finds_on count last items m (No refused stamp) h = ((λ all calls order a are o. h.0 all calls order (less all a) are o), (λ all a. h.1 all (less all a)))
+    finds_on count last items m (Faulty f) h = λ all calls a are. h all calls (less all a) are
 
     pub replays_on : (r : Replay) → Replays closed marks turns declared r → Replays closed' marks' turns declared r
     replays_on r h = record {
       same = h.same;
       named = h.named;
       rules = h.rules;
+      grants = h.grants;
       within = h.within;
       formed = λ all calls a are. h.formed all calls (less all a) are;
-      finding = finds_on r.formed r.last _ r.finding h.finding;
+      finding = finds_on r.formed r.last r.items _ r.finding h.finding;
     }
 
 -- one mark more
@@ -145,9 +146,9 @@ released_more old new place go below other s h at = by (go.each other s at)
     by (inr p) = below other s (let differs = p.0 in omega arith) p.1
 
 -- a turn that names a number which no mark begins, at the end of the transcript
-pub unknown_ahead : (closed : Bool) (marks : List MarkOf) (turns : List Turn) (k : ℕ) (turn : TurnOf) (seen : Seen) → closed ≡ true → AreSeen marks seen → value_at seen.places turn.call ≡ None
-    → slice_get (map turn_of turns) k ≡ Some turn → RefusesTurnAhead closed marks turns k UnknownCall
-unknown_ahead closed marks turns k turn seen e are free there = λ all calls a cs.
+pub unknown_ahead : (closed : Bool) (marks : List MarkOf) (turns : List Turn) (declared : DeclarationOf) (k : ℕ) (turn : TurnOf) (seen : Seen) → closed ≡ true → AreSeen marks seen → value_at seen.places turn.call ≡ None
+    → slice_get (map turn_of turns) k ≡ Some turn → RefusesTurnAhead closed marks turns declared k UnknownCall
+unknown_ahead closed marks turns declared k turn seen e are free there = λ all calls a cs.
     unknown turn.call (turn, there, refl)
     (λ has.
     let x = recorded_in all a.recorded calls cs has.0 has.1 in

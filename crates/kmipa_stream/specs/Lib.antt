@@ -1,4 +1,5 @@
 pub mod Streams
+pub mod Counting
 pub mod Seeing
 pub mod Ahead
 pub mod Waiting

@@ -1,5 +1,6 @@
 -- A replay whose transcript is still coming: what is known of each transcript ahead. Not promised.
-use Rattle.std.specs.Prelude.{◌≡◌, ◌≤◌, ℕ, ℤ, Bool, List, length, map, Option}
+use Rattle.std.specs.Prelude.{◌≡◌, ◌≤◌, ℕ, ℤ, Bool, List, length, map, take, Option}
+use Rattle.kmipa_ttlv.specs.Stream.{capped}
 use Rattle.kmipa_store.specs.Choices.{IsSound}
 use Rattle.kmipa_store.specs.Ledger.{Meaning}
 use Rattle.kmipa_store.specs.States.{state_of_journal}
@@ -10,6 +11,7 @@ use Rattle.kmipa_record.specs.Declarations.{DeclarationOf}
 use Rattle.kmipa_record.specs.Witnesses.{turn_of}
 use Rattle.kmipa_record.specs.declared.turn.Turn.{Turn}
 use Rattle.kmipa_check.specs.Calls.{CallOf, AreCalls, IsRecorded}
+use Rattle.kmipa_check.specs.Grants.{grants_declared, grants_of}
 use Rattle.kmipa_check.specs.Orders.{AreFormedBelow, IsFormed, IsOrder, TurnFault, WitnessFaultAt}
 use Rattle.kmipa_check.specs.Replays.{Replayed}
 use Rattle.kmipa_check.specs.Runs.{rules_declared}
@@ -20,44 +22,48 @@ use Rattle.kmipa_check.specs.declared.fault.WitnessFault.{WitnessFault}
 use Rattle.kmipa_check.specs.declared.fault.WitnessKind.{WitnessKind}
 use Rattle.kmipa_check.specs.declared.verdict.Refused.{Refused}
 use Rattle.kmipa_stream.specs.Ahead.{IsAhead}
-use Rattle.kmipa_stream.specs.Steps.{IsLastStamp}
+use Rattle.kmipa_stream.specs.Counting.{items_in}
+use Rattle.kmipa_stream.specs.Steps.{IsLastMoment}
 use Rattle.kmipa_stream.specs.Waiting.{AreNamedAt}
 use Rattle.kmipa_stream.specs.declared.replaying.Finding.{Finding}
 use Rattle.kmipa_stream.specs.declared.replaying.Finding.TheVariants.{Possible, No, Faulty}
 use Rattle.kmipa_stream.specs.declared.replaying.Replay.{Replay}
 
 -- in each transcript ahead all of whose messages are inside, the first so many turns are formed
-abbrev pub FormAhead : Bool → List MarkOf → List Turn → ℕ → Type 0
-FormAhead closed marks turns count = (all : List MarkOf) (calls : List CallOf) → IsAhead closed marks all → AreCalls all calls → AreFormedBelow calls (map turn_of turns) count
+abbrev pub FormAhead : Bool → List MarkOf → List Turn → DeclarationOf → ℕ → Type 0
+FormAhead closed marks turns declared count =
+    (all : List MarkOf) (calls : List CallOf) → IsAhead closed marks all → AreCalls all calls → AreFormedBelow (grants_declared declared) calls (map turn_of turns) count
 
--- the first steps are replayed, and this is the Time Stamp of the last
-pub record GoesOn (declared : DeclarationOf) (order : List StepOf) (count : ℕ) (last : Option ℤ) (m : Meaning) : Type 0 where
+-- the first steps are replayed, this is the moment of the last, and so many of their items have an answer
+pub record GoesOn (declared : DeclarationOf) (order : List StepOf) (count : ℕ) (last : Option ℤ) (items : ℕ) (m : Meaning) : Type 0 where
   pub replayed : Replayed declared order count m
-  pub stamped : IsLastStamp order count last
+  pub stamped : IsLastMoment order count last
+  pub counted : items ≡ capped (items_in (take count order))
 
 -- of each such transcript, and each order by the turns
-abbrev pub GoesOnAhead : Bool → List MarkOf → List Turn → DeclarationOf → ℕ → Option ℤ → Meaning → Type 0
-GoesOnAhead closed marks turns declared count last m =
-    (all : List MarkOf) (calls : List CallOf) (order : List StepOf) → IsAhead closed marks all → AreCalls all calls → IsOrder calls (map turn_of turns) order
-    → GoesOn declared order count last m
+abbrev pub GoesOnAhead : Bool → List MarkOf → List Turn → DeclarationOf → ℕ → Option ℤ → ℕ → Meaning → Type 0
+GoesOnAhead closed marks turns declared count last items m =
+    (all : List MarkOf) (calls : List CallOf) (order : List StepOf) → IsAhead closed marks all → AreCalls all calls → IsOrder (grants_declared declared) calls (map turn_of turns) order
+    → GoesOn declared order count last items m
 
 abbrev pub RefusesAhead : Bool → List MarkOf → List Turn → DeclarationOf → Refused → Type 0
 RefusesAhead closed marks turns declared refused =
-    (all : List MarkOf) (calls : List CallOf) (order : List StepOf) → IsAhead closed marks all → AreCalls all calls → IsOrder calls (map turn_of turns) order
+    (all : List MarkOf) (calls : List CallOf) (order : List StepOf) → IsAhead closed marks all → AreCalls all calls → IsOrder (grants_declared declared) calls (map turn_of turns) order
     → IsRefused declared order refused
 
 -- in each transcript ahead the call was answered then
 abbrev pub AnswersAhead : Bool → List MarkOf → List Turn → ℤ → ℤ → Type 0
 AnswersAhead closed marks turns call stamp = (all : List MarkOf) → IsAhead closed marks all → IsAnsweredAt all (map turn_of turns) call stamp
 
-abbrev pub FaultyAhead : Bool → List MarkOf → List Turn → WitnessFault → Type 0
-FaultyAhead closed marks turns f = (all : List MarkOf) (calls : List CallOf) → IsAhead closed marks all → AreCalls all calls → WitnessFaultAt calls (map turn_of turns) f.at f.kind
+abbrev pub FaultyAhead : Bool → List MarkOf → List Turn → DeclarationOf → WitnessFault → Type 0
+FaultyAhead closed marks turns declared f =
+    (all : List MarkOf) (calls : List CallOf) → IsAhead closed marks all → AreCalls all calls → WitnessFaultAt (grants_declared declared) calls (map turn_of turns) f.at f.kind
 
 -- what was found of the first so many turns is right
-abbrev pub FindsSo : Bool → List MarkOf → List Turn → DeclarationOf → ℕ → Option ℤ → Meaning → Finding → Type 0
-FindsSo closed marks turns declared count last m Possible = IsSound m × GoesOnAhead closed marks turns declared count last m
-FindsSo closed marks turns declared count last m (No refused stamp) = RefusesAhead closed marks turns declared refused × AnswersAhead closed marks turns refused.call stamp
-FindsSo closed marks turns declared count last m (Faulty f) = FaultyAhead closed marks turns f
+abbrev pub FindsSo : Bool → List MarkOf → List Turn → DeclarationOf → ℕ → Option ℤ → ℕ → Meaning → Finding → Type 0
+FindsSo closed marks turns declared count last items m Possible = IsSound m × GoesOnAhead closed marks turns declared count last items m
+FindsSo closed marks turns declared count last items m (No refused stamp) = RefusesAhead closed marks turns declared refused × AnswersAhead closed marks turns refused.call stamp
+FindsSo closed marks turns declared count last items m (Faulty f) = FaultyAhead closed marks turns declared f
 
 -- what a replay's ledger means
 abbrev pub meaning_in : Journal → Meaning
@@ -68,21 +74,24 @@ pub record Replays (closed : Bool) (marks : List MarkOf) (turns : List Turn) (de
   pub same : r.turns.now ≡ turns
   pub named : AreNamedAt turns r.named
   pub rules : rules_of r.rules ≡ rules_declared declared
+  pub grants : grants_of r.grants ≡ grants_declared declared
   pub within : r.formed ≤ length turns
-  pub formed : FormAhead closed marks turns r.formed
-  pub finding : FindsSo closed marks turns declared r.formed r.last (meaning_in r.ledger) r.finding
+  pub formed : FormAhead closed marks turns declared r.formed
+  pub finding : FindsSo closed marks turns declared r.formed r.last r.items (meaning_in r.ledger) r.finding
 
 -- a call that is recorded so in each transcript ahead
 abbrev pub IsRecordedAhead : Bool → List MarkOf → CallOf → Type 0
 IsRecordedAhead closed marks c = (all : List MarkOf) → IsAhead closed marks all → IsRecorded all c
 
 -- in each transcript ahead all of whose messages are inside the turn at this place makes this step
-abbrev pub FormsAhead : Bool → List MarkOf → List Turn → ℕ → StepOf → Type 0
-FormsAhead closed marks turns place s = (all : List MarkOf) (calls : List CallOf) → IsAhead closed marks all → AreCalls all calls → IsFormed calls (map turn_of turns) place s
+abbrev pub FormsAhead : Bool → List MarkOf → List Turn → DeclarationOf → ℕ → StepOf → Type 0
+FormsAhead closed marks turns declared place s =
+    (all : List MarkOf) (calls : List CallOf) → IsAhead closed marks all → AreCalls all calls → IsFormed (grants_declared declared) calls (map turn_of turns) place s
 
 -- the turn at this place is faulty in this way
-abbrev pub RefusesTurnAhead : Bool → List MarkOf → List Turn → ℕ → WitnessKind → Type 0
-RefusesTurnAhead closed marks turns place kind = (all : List MarkOf) (calls : List CallOf) → IsAhead closed marks all → AreCalls all calls → TurnFault calls (map turn_of turns) place kind
+abbrev pub RefusesTurnAhead : Bool → List MarkOf → List Turn → DeclarationOf → ℕ → WitnessKind → Type 0
+RefusesTurnAhead closed marks turns declared place kind =
+    (all : List MarkOf) (calls : List CallOf) → IsAhead closed marks all → AreCalls all calls → TurnFault (grants_declared declared) calls (map turn_of turns) place kind
 
 -- a replay of which something is known
 pub record Replaying (r : Replay) : Type 0 where

@@ -24,10 +24,10 @@ pub record WasAnsweredAt (t w : List ℕ) (call stamp : ℤ) : Type 0 where
   pub witness : IsWitness w turns
   pub answered : IsAnsweredAt marks turns call stamp
 
--- a no comes with the moment at which its call was answered
+-- a no comes with the date at which its call was answered
 abbrev pub TellsDate : List ℕ → List ℕ → Verdict → Option ℤ → Type 0
 TellsDate t w Yes stamp = Unit {0}
-TellsDate t w (No refused) stamp = (moment : ℤ) × (stamp ≡ Some moment) × WasAnsweredAt t w refused.call moment
+TellsDate t w (No refused) stamp = (date : ℤ) × (stamp ≡ Some date) × WasAnsweredAt t w refused.call date
 
 -- a transcript came, to the end that was seen
 pub record IsPassed {R : Type 0} (i : Input R) : Type 0 where

@@ -11,6 +11,7 @@ ghost use Rattle.kmipa_record.specs.Witnesses.{IsWitnessUpTo, WitnessFault, turn
 ghost use Rattle.kmipa_record.specs.declared.turn.Turn as turns;
 ghost use Rattle.kmipa_check.specs.Audits.{AreADeclaration, AreAccepted, AuditFails, AuditsAs};
 ghost use Rattle.kmipa_check.specs.declared.verdict.Verdict.TheVariants.{Yes};
+ghost use Rattle.kmipa_stream.specs.Counting.{HaveItems};
 ghost use Rattle.kmipa_stream.specs.Opening.{Opens};
 ghost use Rattle.kmipa_stream.specs.Standing.{IsJudged, Stands, stamped_alone};
 ghost use Rattle.kmipa_stream.specs.Streams.{IsPassed, TellsDate, verdict_alone};
@@ -58,6 +59,10 @@ pub fn audit_stream<R: Read>(
     // A no comes with the Time Stamp of its call's response.
     ensures dated { IfOk result
         (λ judged. TellsDate (came_of transcript.new) (came_of witness.new) judged.verdict judged.stamp) }
+    // A yes comes with the number of items that were judged.
+    ensures counted { IfOk result
+        (λ judged. judged.verdict ≡ Yes
+        → HaveItems (came_of transcript.new) (came_of declaration.new) (came_of witness.new) judged.items) }
     // Each verdict comes with the head up to which all seals are right of what came, or that bears none.
     ensures known { IfOk result
         (λ judged. (marks : List MarkOf) × IsKnownBy (came_of transcript.new) marks judged.head) }
@@ -202,9 +207,16 @@ fn with_head(stamped: Result<Stamped, CheckFault>, head: Option<Head>) -> Result
     ensures head { IfOk result (λ judged. judged.head ≡ head) }
 {
     match stamped {
-        Ok(Stamped { verdict, stamp }) => Ok(Judged {
+        Ok(
+            Stamped {
+                verdict,
+                stamp,
+                items,
+            },
+        ) => Ok(Judged {
             verdict,
             stamp,
+            items,
             head,
         }),
         Err(fault) => Err(fault),

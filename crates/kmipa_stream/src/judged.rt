@@ -1,14 +1,17 @@
-//! Verdicts with the moment of a refused call, and with the head of the transcript.
+//! Verdicts with the date of a refused call, the number of items judged, and the head of the transcript.
 
 use kmipa_check::Verdict;
 use kmipa_record::Head;
 
-/// A verdict, when the call that it refuses was answered, and what the transcript is known by.
+/// A verdict, when the call that it refuses was answered, how many items were judged, and what the transcript is known by.
 #[derive(Drop)]
 pub struct Judged {
     pub verdict: Verdict,
-    /// Of a no, the Time Stamp of the response of the call that it refuses.
+    /// Of a no, the Time Stamp of the response of the call that it refuses, as it was recorded or answered.
     pub stamp: Option<i64>,
+    /// How many items were judged: the places of all turns taken that have a Batch Item in the request and in the response. It stops at the
+    /// greatest `u64`. Only the number of a yes is promised.
+    pub items: u64,
     /// The head of a transcript that is sealed.
     pub head: Option<Head>,
 }

@@ -7,9 +7,9 @@ ghost use Rattle.kmipa_stream.specs.Steps.{is_less};
 use crate::ends::Ends;
 use crate::naming::{is_named, is_passed};
 use crate::opening::{Opening, rules_with};
-use crate::taking::take_step;
+use crate::taking::{answered_items, take_step};
 use kmipa_check::{
-    Call, CheckFault, FirstPlaces, Refused, Step, StepFault, WitnessFault, WitnessKind,
+    Call, CheckFault, FirstPlaces, Grants, Refused, Step, StepFault, WitnessFault, WitnessKind,
     step_of_turn,
 };
 use kmipa_msgs::Rules;
@@ -22,7 +22,7 @@ use std::alloc::{AllocError, Global};
 pub(crate) enum Finding {
     /// Each was possible.
     Possible,
-    /// The first that wasn't, and the Time Stamp of its step.
+    /// The first that wasn't, and the Time Stamp of its response as it was recorded or answered.
     No(Refused, i64),
     /// The first fault of the witness.
     Faulty(WitnessFault),
@@ -35,11 +35,14 @@ pub(crate) struct Replay<'w> {
     turns: &'w [Turn],
     named: FirstPlaces,
     rules: Rules,
+    grants: Grants,
     ledger: Journal,
     // How many turns made their steps.
     formed: usize,
-    // The Time Stamp of the last step that was taken.
+    // The moment of the last step that was taken.
     last: Option<i64>,
+    // How many items of the steps that were taken have an answer, as far as 64 bits count.
+    items: u64,
     finding: Finding,
 }
 
@@ -76,9 +79,13 @@ impl<'w> Replay<'w> {
             turns,
             named: FirstPlaces::of(alloc, turns)?,
             rules: rules_with(alloc, settings, opening.rows, opening.allow_lines)?,
+            grants: Grants {
+                tolerance: settings.tolerance,
+            },
             ledger: opening.ledger,
             formed: 0,
             last: None,
+            items: 0,
             finding: Finding::Possible,
         })
     }
@@ -115,7 +122,7 @@ impl<'w> Replay<'w> {
         requires { self.old.formed < length self.old.turns.now }
         ensures replays { (closed : Bool) (marks : List MarkOf) (turns : List turns.Turn) (declared : DeclarationOf)
             → Replays closed marks turns declared self.old
-            → RefusesTurnAhead closed marks turns self.old.formed kind
+            → RefusesTurnAhead closed marks turns declared self.old.formed kind
             → Replays closed marks turns declared self.new }
         ensures same { self.new.formed ≡ self.old.formed }
         ensures faulty { IsAtEnd self.new self.new.finding }
@@ -142,7 +149,7 @@ impl<'w> Replay<'w> {
             → (self.new.turns.now ≡ self.old.turns.now) × (self.new.formed ≡ self.old.formed + 1)) }
         ensures faulty { IfOk result (λ formed. formed ≡ false → IsAtEnd self.new self.new.finding) }
     {
-        match step_of_turn(self.alloc, call, turn) {
+        match step_of_turn(self.alloc, &self.grants, call, turn) {
             Ok(step) => {
                 self.take_formed(&step, ends)?;
                 Ok(true)
@@ -163,8 +170,8 @@ impl<'w> Replay<'w> {
         requires takable { MayBeTaken (step_of step.now).request (step_of step.now).response (step_of step.now).places }
         ensures replays { (closed : Bool) (marks : List MarkOf) (turns : List turns.Turn) (declared : DeclarationOf)
             → Replays closed marks turns declared self.old → Wait marks turns self.old.formed ends.old
-            → FormsAhead closed marks turns self.old.formed (step_of step.now) → step.now.begin < length marks
-            → AnswersAhead closed marks turns step.now.number (step_of step.now).response.stamp
+            → FormsAhead closed marks turns declared self.old.formed (step_of step.now) → step.now.begin < length marks
+            → AnswersAhead closed marks turns step.now.number step.now.stamp
             → OnOk result
             (Replays closed marks turns declared self.new × Wait marks turns self.new.formed ends.new) }
         ensures formed { OnOk result ((self.new.turns.now ≡ self.old.turns.now)
@@ -177,8 +184,8 @@ impl<'w> Replay<'w> {
             return Ok(());
         };
         let late = is_before(waiting, step.begin);
-        let stamp = step.stamp();
-        let back = is_less(stamp, self.last);
+        let moment = step.moment();
+        let back = is_less(moment, self.last);
         match take_step(
             self.alloc,
             &mut self.ledger,
@@ -189,15 +196,23 @@ impl<'w> Replay<'w> {
             back,
         ) {
             Ok(None) => {
-                self.last = Some(stamp);
+                self.last = Some(moment);
+                self.items = self.items.saturating_add(answered_items(step) as u64);
                 Ok(())
             }
             Ok(Some(refused)) => {
-                self.finding = Finding::No(refused, stamp);
+                self.finding = Finding::No(refused, step.stamp);
                 Ok(())
             }
             Err(_) => Err(AllocError),
         }
+    }
+
+    /// How many items of the steps that were taken have an answer.
+    pub fn items(&self) -> u64
+        ensures { result ≡ self.now.items }
+    {
+        self.items
     }
 
     /// What was found so far.
@@ -218,12 +233,12 @@ fn is_before(end: Option<usize>, begin: usize) -> bool
     }
 }
 
-/// Whether a Time Stamp is less than the last one, if there is one.
-fn is_less(stamp: i64, last: Option<i64>) -> bool
-    ensures { result ≡ is_less stamp last }
+/// Whether a moment is less than the last one, if there is one.
+fn is_less(moment: i64, last: Option<i64>) -> bool
+    ensures { result ≡ is_less moment last }
 {
     match last {
-        Some(last) => stamp < last,
+        Some(last) => moment < last,
         None => false,
     }
 }

@@ -1,6 +1,7 @@
 //! A step that is taken.
 
-ghost use Rattle.std.specs.Prelude.{◌≡◌, ◌<◌, ◌+◌, ◌^◌, IfOk, IfSome, List, Some, slice_get};
+ghost use Rattle.std.specs.Prelude.{◌≡◌, ◌<◌, ◌+◌, ◌^◌, IfOk, IfSome, List, Some, length, slice_get};
+ghost use Rattle.kmipa_batch.specs.Calls.{pairs_of};
 ghost use Rattle.kmipa_batch.specs.Readable.{IsReadableCall};
 ghost use Rattle.kmipa_store.specs.Choices.{IsSound};
 ghost use Rattle.kmipa_msgs.specs.Messages.{rules_of};
@@ -17,7 +18,7 @@ use kmipa_ops::Why;
 use kmipa_store::Ledger;
 use std::alloc::Global;
 
-/// Takes the step of a turn, counted from 0, which comes too late, or whose Time Stamp runs back, or neither; or says why it is impossible.
+/// Takes the step of a turn, counted from 0, which comes too late, or whose moment runs back, or neither; or says why it is impossible.
 pub(crate) fn take_step<L: Ledger>(
     alloc: Global,
     ledger: &mut L,
@@ -55,6 +56,15 @@ pub(crate) fn take_step<L: Ledger>(
         Err(CallRefusal::Impossible(item, why)) => Ok(Some(refused_at(turn, step, item, why))),
         Err(CallRefusal::Memory) => Err(CheckFault::Memory),
     }
+}
+
+/// How many items of a step have an answer: the places that have a Batch Item in the request and in the response.
+pub(crate) fn answered_items(step: &Step) -> usize
+    ensures { result ≡ length (pairs_of (step_of step.now).request (step_of step.now).response) }
+{
+    let asked = step.request.items.len();
+    let answered = step.response.response().items.len();
+    asked.min(answered)
 }
 
 /// A turn, counted from 0, that is impossible at an item.

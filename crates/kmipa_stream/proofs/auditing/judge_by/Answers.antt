@@ -1,7 +1,6 @@
-use Rattle.std.proofs.Common.{rules, map, subst, sym, Err, List, ℕ, Result, Option}
-use Rattle.std.specs.Prelude.{IfOk}
+use Rattle.std.proofs.Common.{rules, map, subst, sym, Err, Result}
 use Rattle.kmipa_ttlv.specs.Input.{came_of}
-use Rattle.kmipa_record.specs.TranscriptReading.{input_of, IsKnownBy}
+use Rattle.kmipa_record.specs.TranscriptReading.{input_of}
 use Rattle.kmipa_record.specs.Witnesses.{turn_of}
 use Rattle.kmipa_check.specs.declared.fault.CheckFault.{CheckFault}
 use Rattle.kmipa_check.specs.declared.fault.CheckFault.TheVariants.{Memory}

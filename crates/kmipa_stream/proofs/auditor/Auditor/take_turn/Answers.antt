@@ -33,7 +33,7 @@ returns-in_default-clause-stands c = λ marks turns declared s.
       found = s.found;
       replay =
           c.refuse.ensures.replays c.args.closed marks turns declared s.replay
-          (unknown_ahead c.args.closed marks turns a.replay.formed (turn_of c.args.turn.now) a.seen c.if-not-closed.false s.seen free there);
+          (unknown_ahead c.args.closed marks turns declared a.replay.formed (turn_of c.args.turn.now) a.seen c.if-not-closed.false s.seen free there);
     }
 
 pub returns-then-is_passed-clause-stands : goal.returns-then-is_passed-clause-stands
@@ -50,7 +50,7 @@ returns-then-is_passed-clause-stands c = λ marks turns declared s.
       found = s.found;
       replay =
           c.refuse-then-is_passed.ensures.replays c.args.closed marks turns declared s.replay
-          (twice_ahead c.args.closed marks turns a.replay.formed (turn_of c.args.turn.now) there (subst Q c.if-is_passed.true d) s.replay.formed);
+          (twice_ahead c.args.closed marks turns declared a.replay.formed (turn_of c.args.turn.now) there (subst Q c.if-is_passed.true d) s.replay.formed);
     }
 
 pub take-requires-clause-named : goal.take-requires-clause-named

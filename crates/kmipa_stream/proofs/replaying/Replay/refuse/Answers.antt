@@ -7,7 +7,8 @@ returns-clause-replays c = λ closed marks turns declared r refuses. record {
   same = r.same;
   named = r.named;
   rules = r.rules;
+  grants = r.grants;
   within = r.within;
   formed = r.formed;
-  finding = faulty_ahead closed marks turns c.args.self.now.formed c.args.kind _ refl r.formed refuses;
+  finding = faulty_ahead closed marks turns declared c.args.self.now.formed c.args.kind _ refl r.formed refuses;
 }
