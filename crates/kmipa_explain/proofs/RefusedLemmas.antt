@@ -12,6 +12,7 @@ use Rattle.kmipa_record.specs.Witnesses.{TurnOf}
 use Rattle.kmipa_batch.specs.Calls.{pairs_of}
 use Rattle.kmipa_batch.specs.Refusals.{in_shape, in_item, SpeaksAtAlong}
 use Rattle.kmipa_check.specs.Calls.{CallOf, AreCalls}
+use Rattle.kmipa_check.specs.Grants.{GrantsOf, grants_declared}
 use Rattle.kmipa_check.specs.Orders.{IsOrder}
 use Rattle.kmipa_check.specs.Runs.{rules_declared}
 use Rattle.kmipa_check.specs.Steps.{StepOf, order_of, step_of}
@@ -62,9 +63,9 @@ operations_there declared order turn c item why (Verdicts.in_item count h) diffe
     pair_speaks (rules_declared declared) h.known c.request c.response (order_of c) count item why h.speaks differs
 
 -- the begin mark of a step
-begun_at : (marks : List MarkOf) (calls : List CallOf) (turns : List TurnOf) (order : List StepOf) (turn : ℕ) (c : StepOf)
-    → AreCalls marks calls → IsOrder calls turns order → slice_get order turn ≡ Some c → IsBegun marks c
-begun_at marks calls turns order turn c are formed at =
+begun_at : (g : GrantsOf) (marks : List MarkOf) (calls : List CallOf) (turns : List TurnOf) (order : List StepOf) (turn : ℕ) (c : StepOf)
+    → AreCalls marks calls → IsOrder g calls turns order → slice_get order turn ≡ Some c → IsBegun marks c
+begun_at g marks calls turns order turn c are formed at =
     let f = formed.formed turn c at in
     let p = at_contains calls f.call f.known in
     let its = recorded_at marks calls p.0 f.call are p.1 in
@@ -73,22 +74,22 @@ begun_at marks calls turns order turn c are formed at =
 
 module _ (marks : List MarkOf) (declared : DeclarationOf) (turns : List TurnOf) (r : Refused) (recorded : AreRecorded marks) (told : TellsVerdict marks declared turns (No r)) where
   -- the order of the no is the one that is read
-  its_order : (calls : List CallOf) (order : List StepOf) → AreCalls marks calls → IsOrder calls turns order → IsRefused declared order r
+  its_order : (calls : List CallOf) (order : List StepOf) → AreCalls marks calls → IsOrder (grants_declared declared) calls turns order → IsRefused declared order r
   its_order calls order are formed =
       let e : told.0 ≡ calls = same_calls marks told.0 calls recorded told.1 are in
-      let P : List CallOf → Type 0 = λ cs. IsOrder cs turns told.2.0 in
-      let o = one_order_lem calls turns told.2.0 order (once_pairs (map number_of calls) (calls_once marks calls recorded are)) (subst P e told.2.1) formed in
+      let P : List CallOf → Type 0 = λ cs. IsOrder (grants_declared declared) cs turns told.2.0 in
+      let o = one_order_lem (grants_declared declared) calls turns told.2.0 order (once_pairs (map number_of calls) (calls_once marks calls recorded are)) (subst P e told.2.1) formed in
       let Q : List StepOf → Type 0 = λ ss. IsRefused declared ss r in
       subst Q o told.2.2
 
-  pub explainable : (calls : List CallOf) (order : List StepOf) → AreCalls marks calls → IsOrder calls turns order → IsExplainable marks declared order r
+  pub explainable : (calls : List CallOf) (order : List StepOf) → AreCalls marks calls → IsOrder (grants_declared declared) calls turns order → IsExplainable marks declared order r
   explainable calls order are formed =
       let its = its_order calls order are formed in
       record {
         turn = its.turn;
         reported = its.reported;
         call = its.call;
-        begun = begun_at marks calls turns order its.turn its.call are formed its.there;
+        begun = begun_at (grants_declared declared) marks calls turns order its.turn its.call are formed its.there;
         refused = record {
           there = its.there;
           behind = stamp_behind declared order its.turn its.call r.item r.why its.refused;

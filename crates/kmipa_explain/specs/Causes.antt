@@ -1,4 +1,4 @@
--- What the reason of a no rests on: of the calls alone who ended before, whose stamp is higher, which shape, which operation; of the others what was
+-- What the reason of a no rests on: of the calls alone who ended before, whose moment is later, which shape, which operation; of the others what was
 -- held where the item was refused.
 use Rattle.std.specs.Prelude.{◌≡◌, ℕ, ◌+◌, List, Option, Some, None, option_map, is_some, slice_get}
 use Rattle.kmipa_msgs.specs.Messages.{AskOf, AnswerOf}
@@ -19,7 +19,7 @@ use Rattle.kmipa_explain.specs.declared.explanation.TurnBefore.{TurnBefore}
 use Rattle.kmipa_explain.specs.declared.explanation.Shape.{Shape}
 use Rattle.kmipa_explain.specs.declared.explanation.Operations.{Operations}
 
--- this is the turn before, counted from 1, with its call and its stamp; turns are counted from 0 here
+-- this is the turn before, counted from 1, with its call and its moment; turns are counted from 0 here
 pub record IsTurnBefore (order : List StepOf) (turn : ℕ) (b : TurnBefore) : Type 0 where
   pub earlier : ℕ
   pub next : earlier + 1 ≡ turn

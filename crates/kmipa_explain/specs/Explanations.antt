@@ -5,6 +5,7 @@ use Rattle.kmipa_record.specs.Declarations.{DeclarationOf}
 use Rattle.kmipa_record.specs.Marks.{MarkOf, begins}
 use Rattle.kmipa_record.specs.Witnesses.{TurnOf}
 use Rattle.kmipa_check.specs.Calls.{CallOf, AreCalls}
+use Rattle.kmipa_check.specs.Grants.{grants_declared}
 use Rattle.kmipa_check.specs.Steps.{StepOf}
 use Rattle.kmipa_check.specs.Orders.{IsOrder}
 use Rattle.kmipa_check.specs.declared.verdict.Refused.{Refused}
@@ -43,5 +44,5 @@ pub record Explains (marks : List MarkOf) (declared : DeclarationOf) (turns : Li
   pub calls : List CallOf
   pub are : AreCalls marks calls
   pub order : List StepOf
-  pub formed : IsOrder calls turns order
+  pub formed : IsOrder (grants_declared declared) calls turns order
   pub explains : ExplainsIn marks declared order r e

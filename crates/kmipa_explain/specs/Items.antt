@@ -13,7 +13,7 @@ use Rattle.kmipa_batch.specs.Orders.{places_from}
 use Rattle.kmipa_check.specs.Steps.{StepOf, order_of}
 use Rattle.kmipa_explain.specs.Effects.{dates_set, tells_bytes}
 
--- An item that was asked and answered: its turn, its call and its place in the call, turn and place counted from 1; the Time Stamp; the operation,
+-- An item that was asked and answered: its turn, its call and its place in the call, turn and place counted from 1; the moment of its call; the operation,
 -- the status, whether it makes an object; the dates that it sets, whether it tells bytes; and the identifier that it is about, if it is about one.
 pub record ItemOf : Type 0 where
   pub turn : ℕ

@@ -73,7 +73,7 @@ fn turn_before(steps: &[Step], turn: usize) -> TurnBefore
     TurnBefore {
         turn,
         call: before.number,
-        stamp: before.stamp(),
+        stamp: before.moment(),
     }
 }
 

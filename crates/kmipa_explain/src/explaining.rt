@@ -18,7 +18,7 @@ use crate::explanation::Explanation;
 use crate::places::ask_at;
 use crate::sources::whence_of;
 use crate::story::story_of;
-use kmipa_check::{CheckFault, Refused, Step, Verdict, read_calls, steps_of};
+use kmipa_check::{CheckFault, Grants, Refused, Step, Verdict, read_calls, steps_of};
 use kmipa_record::{Declaration, Mark, Transcript, Witness};
 use std::alloc::{AllocError, Global};
 
@@ -38,7 +38,7 @@ pub fn explain(
     ensures memory { IfErr result (λ fault. fault ≡ CheckFault.Memory) }
 {
     let calls = read_calls(alloc, transcript)?;
-    let steps = steps_of(alloc, &calls, &witness.turns)?;
+    let steps = steps_of(alloc, &Grants::of(declaration), &calls, &witness.turns)?;
     explained(alloc, &transcript.marks, declaration, &steps, refused)
 }
 
@@ -65,7 +65,7 @@ fn explained(
     let rest = cause_of(alloc, declaration, steps, turn, refused.item, refused.why)?;
     Ok(Explanation {
         client,
-        stamp: step.stamp(),
+        stamp: step.moment(),
         operation: operation_at(step, refused.item),
         overlapping,
         whence: whence_of(alloc, declaration, steps, refused, &rest.subject)?,

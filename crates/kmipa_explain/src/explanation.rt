@@ -12,7 +12,7 @@ use kmipa_msgs::{BatchOption, Status};
 pub struct Explanation {
     /// The client of the call, as its begin mark names it.
     pub client: String,
-    /// The Time Stamp of the response that it was to give, in seconds since 1970.
+    /// The moment at which it was to be done, in seconds since 1970.
     pub stamp: i64,
     /// The operation that is asked for at the refused item, by its number; none where the turn itself is refused, or where an answer is
     /// one too many.
@@ -72,7 +72,7 @@ pub struct TurnBefore {
     pub turn: usize,
     /// The number of its call.
     pub call: i32,
-    /// The Time Stamp of its response, in seconds since 1970.
+    /// The moment of its call, in seconds since 1970.
     pub stamp: i64,
 }
 
@@ -118,7 +118,7 @@ pub struct Event {
     pub call: i32,
     /// Its place in the call, counted from 1.
     pub item: usize,
-    /// The Time Stamp of the response, in seconds since 1970.
+    /// The moment of the call, in seconds since 1970.
     pub stamp: i64,
     /// The operation that was asked for, by its number.
     pub operation: u32,

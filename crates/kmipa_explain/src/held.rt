@@ -10,7 +10,7 @@ use kmipa_ops::Judged;
 pub struct StateHeld {
     /// Its row in the table of states.
     pub act: Act,
-    /// The object's state at the Time Stamp of the response.
+    /// The object's state at the moment of the call.
     pub state: State,
     /// What the server's rules say of the operation in that state; of `WrongState` that they exclude it.
     pub allow: Allow,

@@ -90,7 +90,7 @@ fn subject_in(
     let ask = ask_there(step, item);
     let answer = answer_there(step, item);
     let meant = about_in(alloc, ask, answer, &standing.placeholder.id)?;
-    subject_held(alloc, &standing.held, &meant, step.stamp(), cause)
+    subject_held(alloc, &standing.held, &meant, step.moment(), cause)
 }
 
 /// The same of what was held there.
@@ -111,7 +111,15 @@ fn cause_in(
     let ask = ask_there(step, item);
     let answer = answer_there(step, item);
     let meant = about_in(alloc, ask, answer, &standing.placeholder.id)?;
-    cause_of_meant(alloc, &standing.held, meant, step.stamp(), ask, answer, why)
+    cause_of_meant(
+        alloc,
+        &standing.held,
+        meant,
+        step.moment(),
+        ask,
+        answer,
+        why,
+    )
 }
 
 /// The same where this identifier is meant.

@@ -12,7 +12,7 @@ pub struct Item {
     pub call: i32,
     /// Its place in the call, counted from 1.
     pub item: usize,
-    /// The Time Stamp of the response, in seconds since 1970.
+    /// The moment of the call, in seconds since 1970.
     pub stamp: i64,
     /// The operation that was asked for, by its number.
     pub operation: u32,

@@ -100,11 +100,11 @@ fn add_item(
         turn,
         call: step.number,
         item: place + 1,
-        stamp: step.stamp(),
+        stamp: step.moment(),
         operation: ask.number(),
         status: answer.status,
         makes: makes_object(ask),
-        sets: dates_set(ask, step.stamp()),
+        sets: dates_set(ask, step.moment()),
         teaches: tells_bytes(ask, answer),
         about,
     })?;

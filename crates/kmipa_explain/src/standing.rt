@@ -216,7 +216,15 @@ fn take_item<L: Ledger>(
     let Some(answer) = step.response.response().items.get(place) else {
         return Ok(());
     };
-    match take(alloc, ledger, rules, placeholder, step.stamp(), ask, answer) {
+    match take(
+        alloc,
+        ledger,
+        rules,
+        placeholder,
+        step.moment(),
+        ask,
+        answer,
+    ) {
         Ok(()) => Ok(()),
         Err(_) => Err(CheckFault::Memory),
     }

@@ -29,7 +29,7 @@ pub struct Resting {
 pub struct Subject {
     pub identifier: String,
     pub dates: DatesHeld,
-    /// Its state at the Time Stamp of the response.
+    /// Its state at the moment of the call.
     pub state: State,
     /// Whether its bytes are known.
     pub bytes: bool,

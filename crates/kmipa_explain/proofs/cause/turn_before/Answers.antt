@@ -7,7 +7,7 @@ use Rattle.kmipa_explain.proofs.cause.turn_before.Goals as goal
 pub returns : goal.returns
 returns c =
     let number : FitsSigned w32 c.index-steps-turn.result.number = search rules in
-    let stamp : FitsSigned w64 c.stamp.result = search rules in
+    let stamp : FitsSigned w64 c.moment.result = search rules in
     record {
       earlier = c.args.turn - 1;
       next = omega (arith, c.requires.behind);
@@ -15,5 +15,5 @@ returns c =
       there = mapped_at step_of c.args.steps.now (c.args.turn - 1) c.index-steps-turn.result (omega (arith, c.requires.within)) c.index-steps-turn.is;
       reported = omega (arith, c.requires.behind);
       call = to_z-of_z w32 c.index-steps-turn.result.number number;
-      stamp = to_z-of_z w64 c.stamp.result stamp ∙ c.stamp.ensures;
+      stamp = to_z-of_z w64 c.moment.result stamp ∙ c.moment.ensures;
     }

@@ -27,7 +27,7 @@ returns-clause-explains c =
     let call = c.requires.explainable.call in
     let its = its_call marks declared c.args.steps.now c.args.refused c.requires.explainable c.index-steps-turn.result c.index-steps-turn.is in
     let at = stands marks declared c.args.steps.now c.args.refused c.requires.explainable in
-    let fits : FitsSigned w64 c.stamp.result = search rules in
+    let fits : FitsSigned w64 c.moment.result = search rules in
     let P : StepOf → Type 0 = λ s. IsClient marks s (string_bytes c.in_ok-client.client) in
     record {
       turn = c.args.refused.turn - 1;
@@ -35,7 +35,7 @@ returns-clause-explains c =
       call = call;
       there = at;
       client = subst P (sym its) c.in_ok-client.ensures;
-      stamp = to_z-of_z w64 c.stamp.result fits ∙ c.stamp.ensures ∙ ap (λ (s : StepOf). s.response.stamp) (sym its);
+      stamp = to_z-of_z w64 c.moment.result fits ∙ c.moment.ensures ∙ ap (λ (s : StepOf). s.response.stamp) (sym its);
       operation = c.operation_at.ensures ∙ ap (λ (s : StepOf). operation_at s c.args.refused.item) (sym its);
       overlapping = c.in_ok-overlapping.ensures call at;
       cause = c.in_ok-rest.ensures.tells call at;

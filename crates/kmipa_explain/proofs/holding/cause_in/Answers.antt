@@ -21,12 +21,12 @@ cause_of_meant-requires c =
     let ask = ask_of c.ask_there-ask.result.now in
     let answer = answer_of c.answer_there-answer.result.now in
     let pair = pair_is s.request.items s.response.items c.args.item r.ask r.answer r.there ask answer c.ask_there-ask.ensures c.answer_there-answer.ensures in
-    let fits : FitsSigned w64 c.stamp.result = search rules in
+    let fits : FitsSigned w64 c.moment.result = search rules in
     let A : AskOf → Type 0 = λ a. HeldReason c.args.why held (about p a.asked r.answer.payload) s.response.stamp a r.answer in
     let B : AnswerOf → Type 0 = λ b. HeldReason c.args.why held (about p ask.asked b.payload) s.response.stamp ask b in
     let M : Option (List ℕ) → Type 0 = λ o. HeldReason c.args.why held o s.response.stamp ask answer in
     let T : ℤ → Type 0 = λ t. HeldReason c.args.why held (text_of c.in_ok-meant.meant) t ask answer in
-    subst T (sym (to_z-of_z w64 c.stamp.result fits ∙ c.stamp.ensures)) (subst M (sym c.in_ok-meant.ensures) (subst B (sym pair.1) (subst A (sym pair.0) r.reason)))
+    subst T (sym (to_z-of_z w64 c.moment.result fits ∙ c.moment.ensures)) (subst M (sym c.in_ok-meant.ensures) (subst B (sym pair.1) (subst A (sym pair.0) r.reason)))
 
 pub returns : goal.returns
 returns c = λ asked answered there.
@@ -36,9 +36,9 @@ returns c = λ asked answered there.
     let ask = ask_of c.ask_there-ask.result.now in
     let answer = answer_of c.answer_there-answer.result.now in
     let pair = pair_is s.request.items s.response.items c.args.item asked answered there ask answer c.ask_there-ask.ensures c.answer_there-answer.ensures in
-    let fits : FitsSigned w64 c.stamp.result = search rules in
+    let fits : FitsSigned w64 c.moment.result = search rules in
     let A : AskOf → Type 0 = λ a. IfOk c.cause_of_meant.result (TellsHeld c.args.why held (about p a.asked answered.payload) s.response.stamp a answered) in
     let B : AnswerOf → Type 0 = λ b. IfOk c.cause_of_meant.result (TellsHeld c.args.why held (about p ask.asked b.payload) s.response.stamp ask b) in
     let M : Option (List ℕ) → Type 0 = λ o. IfOk c.cause_of_meant.result (TellsHeld c.args.why held o s.response.stamp ask answer) in
     let T : ℤ → Type 0 = λ t. IfOk c.cause_of_meant.result (TellsHeld c.args.why held (text_of c.in_ok-meant.meant) t ask answer) in
-    subst A pair.0 (subst B pair.1 (subst M c.in_ok-meant.ensures (subst T (to_z-of_z w64 c.stamp.result fits ∙ c.stamp.ensures) c.cause_of_meant.ensures)))
+    subst A pair.0 (subst B pair.1 (subst M c.in_ok-meant.ensures (subst T (to_z-of_z w64 c.moment.result fits ∙ c.moment.ensures) c.cause_of_meant.ensures)))

@@ -21,10 +21,10 @@ returns c = λ asked answered there.
     let ask = ask_of c.ask_there-ask.result.now in
     let answer = answer_of c.answer_there-answer.result.now in
     let pair = pair_is s.request.items s.response.items c.args.item asked answered there ask answer c.ask_there-ask.ensures c.answer_there-answer.ensures in
-    let fits : FitsSigned w64 c.stamp.result = search rules in
+    let fits : FitsSigned w64 c.moment.result = search rules in
     let Is : ℤ → Option (List ℕ) → Type 0 = λ t o. IfOk c.subject_held.result (λ (x : Option Subject). option_map seen_subject x ≡ subject_held t c.args.cause.now held o) in
     let A : AskOf → Type 0 = λ a. Is s.response.stamp (about p a.asked answered.payload) in
     let B : AnswerOf → Type 0 = λ b. Is s.response.stamp (about p ask.asked b.payload) in
     let M : Option (List ℕ) → Type 0 = λ o. Is s.response.stamp o in
     let T : ℤ → Type 0 = λ t. Is t (text_of c.in_ok-meant.meant) in
-    subst A pair.0 (subst B pair.1 (subst M c.in_ok-meant.ensures (subst T (to_z-of_z w64 c.stamp.result fits ∙ c.stamp.ensures) c.subject_held.ensures)))
+    subst A pair.0 (subst B pair.1 (subst M c.in_ok-meant.ensures (subst T (to_z-of_z w64 c.moment.result fits ∙ c.moment.ensures) c.subject_held.ensures)))

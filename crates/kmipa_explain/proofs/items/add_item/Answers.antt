@@ -33,12 +33,12 @@ returns c = λ behind.
     let given = got_some answer_of c.deref-2.result.now c.response.result.now.items.items c.args.place c.in-Some-get.answer.now c.deref-2.ensures.value c.in-Some-get.ensures.lookup.3.0 c.in-Some-get.ensures.lookup.1 in
     let answered = ap (λ (r : ResponseOf). slice_get r.items c.args.place) (sym c.response.ensures) ∙ given in
     let number : FitsSigned w32 c.args.step.now.number = search rules in
-    let stamp : FitsSigned w64 c.stamp.result = search rules in
-    let stamp2 : FitsSigned w64 c.stamp-2.result = search rules in
+    let stamp : FitsSigned w64 c.moment.result = search rules in
+    let stamp2 : FitsSigned w64 c.moment-2.result = search rules in
     item_added c.args.turn s c.args.place (text_of c.args.held) c.args.items.now.items c.push.new.self.items _ ask answer (text_of c.in_ok-after.after)
     (slice_get (pairs_of s.request s.response) c.args.place) behind
     (pair_both s.request.items s.response.items c.args.place ask answer asked answered)
     (fields_are c.args.turn s c.args.place (text_of c.args.held) ask answer _ _ c.number.result c.makes_object.result (dates_told c.dates_set.result) c.tells_bytes.result (text_of c.in_ok-about.about)
-    (to_z-of_z w32 c.args.step.now.number number) (to_z-of_z w64 c.stamp.result stamp ∙ c.stamp.ensures) c.number.ensures c.makes_object.ensures
-    (c.dates_set.ensures ∙ ap (λ (t : ℤ). dates_set t ask.asked) (to_z-of_z w64 c.stamp-2.result stamp2 ∙ c.stamp-2.ensures)) c.tells_bytes.ensures c.in_ok-about.ensures)
+    (to_z-of_z w32 c.args.step.now.number number) (to_z-of_z w64 c.moment.result stamp ∙ c.moment.ensures) c.number.ensures c.makes_object.ensures
+    (c.dates_set.ensures ∙ ap (λ (t : ℤ). dates_set t ask.asked) (to_z-of_z w64 c.moment-2.result stamp2 ∙ c.moment-2.ensures)) c.tells_bytes.ensures c.in_ok-about.ensures)
     c.in_ok-after.ensures c.in_ok-push.ensures.items

@@ -38,7 +38,7 @@ returns-in-Ok-clause-taken g c =
     let given = got_some answer_of c.deref-2.result.now c.response.result.now.items.items c.args.place c.in-Some-get.answer.now c.deref-2.ensures.value c.in-Some-get.ensures.lookup.3.0 c.in-Some-get.ensures.lookup.1 in
     let answered = ap (λ (r : ResponseOf). slice_get r.items c.args.place) (sym c.response.ensures) ∙ given in
     let there = pair_both s.request.items s.response.items c.args.place (ask_of c.in-Some.ask.now) (answer_of c.in-Some-get.answer.now) asked answered in
-    let fits : FitsSigned w64 c.stamp.result = search rules in
+    let fits : FitsSigned w64 c.moment.result = search rules in
     pair_taken (rules_of c.args.rules.now) (g.L.Ledger.state c.args.ledger.now) (placeholder_of c.args.placeholder.now) _ s.response.stamp (ask_of c.in-Some.ask.now) (answer_of c.in-Some-get.answer.now)
-    (slice_get (pairs_of s.request s.response) c.args.place) (to_z-of_z w64 c.stamp.result fits ∙ c.stamp.ensures) there
+    (slice_get (pairs_of s.request s.response) c.args.place) (to_z-of_z w64 c.moment.result fits ∙ c.moment.ensures) there
     (Ok tt) (g.L.Ledger.state c.take.new.ledger) (placeholder_of c.take.new.placeholder) c.in-Ok.ensures
