@@ -1,5 +1,5 @@
 -- The fault of what a turn gives to a call, by the call's response and by the turn's answer.
-use Rattle.std.proofs.Common.{◌≡◌, ◌≢◌, ◌⊎◌, inl, inr, ℕ, Bool, false, List, [], Option, Some, None, option_map, refl, subst}
+use Rattle.std.proofs.Common.{◌≡◌, ◌≢◌, ℕ, Bool, false, List, [], Option, Some, None, option_map, refl, ap, subst}
 use Rattle.std.specs.Prelude.{IfOk, Err, is_some}
 use Rattle.kmipa_msgs.specs.declared.fault.ReadFault.{ReadFault}
 use Rattle.kmipa_msgs.specs.declared.fault.ReadFault.TheVariants as read
@@ -7,18 +7,22 @@ use Rattle.kmipa_msgs.specs.declared.kind.OutsideKind.{OutsideKind}
 use Rattle.kmipa_msgs.specs.Messages.{RequestOf, ResponseOf}
 use Rattle.kmipa_msgs.specs.Responses.{SaysResponse, ResponseFault}
 use Rattle.kmipa_record.specs.Marks.{MarkOf}
-use Rattle.kmipa_record.specs.Witnesses.{TurnOf}
+use Rattle.kmipa_record.specs.Witnesses.{FillOf, TurnOf}
 use Rattle.kmipa_check.specs.Calls.{CallOf, AreOutside, AreResponse, IsEnded, has_ended, is_open, IsRecorded}
-use Rattle.kmipa_check.specs.Fills.{FillFault}
+use Rattle.kmipa_check.specs.Births.{AreBirthsWanted, BirthFault}
+use Rattle.kmipa_check.specs.Births
+use Rattle.kmipa_check.specs.Fills.{AreWanted, FillFault}
 use Rattle.kmipa_check.specs.Fills
-use Rattle.kmipa_check.specs.Orders.{IsAnswerFault, answered, unanswered, formless, GivenFault, unfit_answer, unfit_places, unfilled}
+use Rattle.kmipa_check.specs.Grants.{GrantsOf}
+use Rattle.kmipa_check.specs.Moments.{IsUntimely}
+use Rattle.kmipa_check.specs.Orders.{IsAnswerFault, answered, unanswered, formless, GivenFault, unfit_answer, untimely, unfit_places, unfilled, unfit_births, unfit_asides}
 use Rattle.kmipa_check.specs.Places.{PlacesFault, WantsOrder}
 use Rattle.kmipa_check.specs.Places
 use Rattle.kmipa_check.specs.Steps.{IsAnswered, recorded, given}
 use Rattle.kmipa_check.specs.declared.fault.WitnessKind.{WitnessKind}
-use Rattle.kmipa_check.specs.declared.fault.WitnessKind.TheVariants.{AnswerNotWanted, AnswerMissing, AnswerForm, OrderNotWanted, OrderForm}
+use Rattle.kmipa_check.specs.declared.fault.WitnessKind.TheVariants.{FillNotWanted, AnswerNotWanted, AnswerMissing, AnswerForm, OrderNotWanted, OrderForm, MomentForm, BirthNotWanted, BirthForm, AsideForm}
 use Rattle.kmipa_check.proofs.MessageLemmas.{not_outside, same_message}
-use Rattle.kmipa_unfit.specs.Finding.{AnswerSays, IsAnsweredFault, unread}
+use Rattle.kmipa_unfit.specs.Finding.{AnswerSays, IsAnsweredFault, of_moment, of_places, of_fills, of_births, of_asides, unread}
 use Rattle.kmipa_unfit.specs.UnfitTurns.{TellsGiven}
 use Rattle.kmipa_unfit.specs.OrderFinding.{IsOrderless}
 
@@ -45,24 +49,39 @@ has_no_end marks c r lacks = by r.ended
 
 -- ---- the answer
 
-module _ (c : CallOf) (t : TurnOf) (kind : WitnessKind) where
-  pub ended_kind : (response : ResponseOf) → c.response ≡ Some response → (t.answer ≡ None → ⊥) → GivenFault c t kind → kind ≡ AnswerNotWanted
-  ended_kind response has some (unfit_answer (answered x had any is)) = is
-  ended_kind response has some (unfit_answer (unanswered unended none is)) = absurd (some none)
-  ended_kind response has some (unfit_answer (formless bytes i k unended any out is)) = absurd cc
-  ended_kind response has some (unfit_places x (recorded had none) fault) = absurd (some none)
-  ended_kind response has some (unfit_places x (given bytes unended any says) fault) = absurd cc
-  ended_kind response has some (unfilled x (recorded had none) ps gives taken fault) = absurd (some none)
-  ended_kind response has some (unfilled x (given bytes unended any says) ps gives taken fault) = absurd cc
+-- the fault is that of the answer; or there is a response by the turn, and it is that of something else
+pub data FaultBy (g : GrantsOf) (c : CallOf) (t : TurnOf) (kind : WitnessKind) : Type 0 where
+  by_answer : IsAnswerFault c t kind → FaultBy g c t kind
+  by_response : (response : ResponseOf) → IsAnswered c t response → IsAnsweredFault g c.request response t kind → FaultBy g c t kind
 
-  pub open_kind : c.response ≡ None → t.answer ≡ None → GivenFault c t kind → kind ≡ AnswerMissing
-  open_kind lacks none (unfit_answer (answered x had any is)) = absurd cc
-  open_kind lacks none (unfit_answer (unanswered unended nothing is)) = is
-  open_kind lacks none (unfit_answer (formless bytes i k unended any out is)) = absurd cc
-  open_kind lacks none (unfit_places x (recorded had nothing) fault) = absurd cc
-  open_kind lacks none (unfit_places x (given bytes unended any says) fault) = absurd cc
-  open_kind lacks none (unfilled x (recorded had nothing) ps gives taken fault) = absurd cc
-  open_kind lacks none (unfilled x (given bytes unended any says) ps gives taken fault) = absurd cc
+module _ (g : GrantsOf) (c : CallOf) (t : TurnOf) (kind : WitnessKind) where
+  parted : GivenFault g c t kind → FaultBy g c t kind
+  parted (unfit_answer fault) = by_answer fault
+  parted (untimely x had late is) = by_response x had (of_moment late is)
+  parted (unfit_places x had moment timed fault) = by_response x had (of_places fault)
+  parted (unfilled x had moment timed places gives taken fault) = by_response x had (of_fills fault)
+  parted (unfit_births x had moment timed places gives taken full filled fault) = by_response x had (of_births fault)
+  parted (unfit_asides x had moment timed places gives taken full filled none some is) = by_response x had (of_asides some is)
+
+  pub ended_kind : (response : ResponseOf) → c.response ≡ Some response → (t.answer ≡ None → ⊥) → GivenFault g c t kind → kind ≡ AnswerNotWanted
+  ended_kind response has some fault = by (parted fault)
+    where
+      by : FaultBy g c t kind → kind ≡ AnswerNotWanted
+      by (by_answer (answered x had any is)) = is
+      by (by_answer (unanswered unended none is)) = absurd (some none)
+      by (by_answer (formless bytes i k unended any out is)) = absurd cc
+      by (by_response x (recorded had none) f) = absurd (some none)
+      by (by_response x (given bytes unended any says) f) = absurd cc
+
+  pub open_kind : c.response ≡ None → t.answer ≡ None → GivenFault g c t kind → kind ≡ AnswerMissing
+  open_kind lacks none fault = by (parted fault)
+    where
+      by : FaultBy g c t kind → kind ≡ AnswerMissing
+      by (by_answer (answered x had any is)) = absurd cc
+      by (by_answer (unanswered unended nothing is)) = is
+      by (by_answer (formless bytes i k unended any out is)) = absurd cc
+      by (by_response x (recorded had nothing) f) = absurd cc
+      by (by_response x (given bytes unended any says) f) = absurd cc
 
   -- an answer that says a response isn't outside
   said_inside : (bytes others : List ℕ) (x : ResponseOf) (item : ℕ) (reason : OutsideKind) → t.answer ≡ Some bytes → t.answer ≡ Some others → AreResponse c.request others x
@@ -73,14 +92,15 @@ module _ (c : CallOf) (t : TurnOf) (kind : WitnessKind) where
       not_outside (λ u. SaysResponse u c.request) (λ u. ResponseFault u c.request) bytes x item reason (subst P same says) out
 
   pub form_kind : (bytes : List ℕ) (item : ℕ) (reason : OutsideKind) → c.response ≡ None → t.answer ≡ Some bytes → AreOutside (λ u. ResponseFault u c.request) bytes item reason
-      → GivenFault c t kind → kind ≡ AnswerForm
-  form_kind bytes item reason lacks some out (unfit_answer (answered x had any is)) = absurd cc
-  form_kind bytes item reason lacks some out (unfit_answer (unanswered unended none is)) = absurd cc
-  form_kind bytes item reason lacks some out (unfit_answer (formless others i k unended any outs is)) = is
-  form_kind bytes item reason lacks some out (unfit_places x (recorded had none) fault) = absurd cc
-  form_kind bytes item reason lacks some out (unfit_places x (given others unended any says) fault) = absurd (said_inside bytes others x item reason some any says out)
-  form_kind bytes item reason lacks some out (unfilled x (recorded had none) ps gives taken fault) = absurd cc
-  form_kind bytes item reason lacks some out (unfilled x (given others unended any says) ps gives taken fault) = absurd (said_inside bytes others x item reason some any says out)
+      → GivenFault g c t kind → kind ≡ AnswerForm
+  form_kind bytes item reason lacks some out fault = by (parted fault)
+    where
+      by : FaultBy g c t kind → kind ≡ AnswerForm
+      by (by_answer (answered x had any is)) = absurd cc
+      by (by_answer (unanswered unended none is)) = absurd cc
+      by (by_answer (formless others i k unended any outs is)) = is
+      by (by_response x (recorded had none) f) = absurd cc
+      by (by_response x (given others unended any says) f) = absurd (said_inside bytes others x item reason some any says out)
 
   -- ---- the response
 
@@ -101,44 +121,115 @@ module _ (c : CallOf) (t : TurnOf) (kind : WitnessKind) where
   answer_right x (given bytes unended some says) (unanswered lacks nothing is) = absurd cc
   answer_right x (given bytes unended some says) (formless others i k lacks any out is) = said_inside others bytes x i k any some says out
 
-  pub answered_fault : (response : ResponseOf) → IsAnswered c t response → GivenFault c t kind → IsAnsweredFault c.request response t kind
-  answered_fault response had (unfit_answer fault) = absurd (answer_right response had fault)
-  answered_fault response had (unfit_places x has fault) =
-      let P : ResponseOf → Type 0 = λ y. PlacesFault c.request y t.places kind in
-      inl (subst P (one_answer x response has had) fault)
-  answered_fault response had (unfilled x has ps gives taken fault) =
-      let P : ResponseOf → Type 0 = λ y. FillFault c.request y t.fills kind in
-      inr (subst P (one_answer x response has had) fault)
+  pub answered_fault : (response : ResponseOf) → IsAnswered c t response → GivenFault g c t kind → IsAnsweredFault g c.request response t kind
+  answered_fault response had fault = by (parted fault)
+    where
+      by : FaultBy g c t kind → IsAnsweredFault g c.request response t kind
+      by (by_answer f) = absurd (answer_right response had f)
+      by (by_response x has f) = let P : ResponseOf → Type 0 = λ y. IsAnsweredFault g c.request y t kind in subst P (one_answer x response has had) f
 
--- ---- the places, or the fills
+-- ---- the moment, the places, the fills, the births, or what is set aside
 
-module _ (request : RequestOf) (response : ResponseOf) (t : TurnOf) (kind : WitnessKind) where
-  fills_kind : FillFault request response t.fills kind → (kind ≡ OrderNotWanted) ⊎ (kind ≡ OrderForm) → ⊥
-  fills_kind (Fills.unwanted none is) (inl e) = absurd cc
-  fills_kind (Fills.unwanted none is) (inr e) = absurd cc
-  fills_kind (Fills.missing all none is) (inl e) = absurd cc
-  fills_kind (Fills.missing all none is) (inr e) = absurd cc
-  fills_kind (Fills.misformed all none some is) (inl e) = absurd cc
-  fills_kind (Fills.misformed all none some is) (inr e) = absurd cc
+-- what of a turn a kind of fault is about
+abbrev about : WitnessKind → ℕ
+about MomentForm = 1
+about OrderNotWanted = 2
+about OrderForm = 2
+about BirthNotWanted = 3
+about BirthForm = 3
+about AsideForm = 4
+about kind = 0
 
-  pub order_unwanted : IsAnsweredFault request response t kind → kind ≡ OrderNotWanted → (t.places ≢ []) × (WantsOrder request response → ⊥)
-  order_unwanted (inl (Places.unwanted some wants is)) e = (some, wants)
-  order_unwanted (inl (Places.disordered some wants none is)) e = absurd cc
-  order_unwanted (inr fault) e = absurd (fills_kind fault (inl e))
+module _ (g : GrantsOf) (request : RequestOf) (response : ResponseOf) (t : TurnOf) (kind : WitnessKind) where
+  about_places : PlacesFault request response t.places kind → about kind ≡ 2
+  about_places (Places.unwanted some wants is) = ap about is
+  about_places (Places.disordered some wants none is) = ap about is
 
-  pub order_form : IsAnsweredFault request response t kind → kind ≡ OrderForm → IsOrderless request response t.places
-  order_form (inl (Places.unwanted some wants is)) e = absurd cc
-  order_form (inl (Places.disordered some wants none is)) e = none
-  order_form (inr fault) e = absurd (fills_kind fault (inr e))
+  about_fills : FillFault request response t.fills kind → about kind ≡ 0
+  about_fills (Fills.unwanted none is) = ap about is
+  about_fills (Fills.missing all none is) = ap about is
+  about_fills (Fills.misformed all none some is) = ap about is
 
-  pub fills_left : IsAnsweredFault request response t kind → kind ≢ OrderNotWanted → kind ≢ OrderForm → FillFault request response t.fills kind
-  fills_left (inl (Places.unwanted some wants is)) a b = absurd (a is)
-  fills_left (inl (Places.disordered some wants none is)) a b = absurd (b is)
-  fills_left (inr fault) a b = fault
+  about_births : BirthFault request response t.births kind → about kind ≡ 3
+  about_births (Births.not_wanted none is) = ap about is
+  about_births (Births.formless all some is) = ap about is
+
+  pub moment_late : IsAnsweredFault g request response t kind → kind ≡ MomentForm → IsUntimely g response.stamp t.moment
+  moment_late (of_moment late is) e = late
+  moment_late (of_places f) e = let a = about_places f in let b = ap about e in absurd cc
+  moment_late (of_fills f) e = let a = about_fills f in let b = ap about e in absurd cc
+  moment_late (of_births f) e = let a = about_births f in let b = ap about e in absurd cc
+  moment_late (of_asides some is) e = absurd cc
+
+  places_left : IsAnsweredFault g request response t kind → about kind ≡ 2 → PlacesFault request response t.places kind
+  places_left (of_moment late is) e = let a = ap about is in absurd cc
+  places_left (of_places f) e = f
+  places_left (of_fills f) e = let a = about_fills f in absurd cc
+  places_left (of_births f) e = let a = about_births f in absurd cc
+  places_left (of_asides some is) e = let a = ap about is in absurd cc
+
+  pub order_unwanted : IsAnsweredFault g request response t kind → kind ≡ OrderNotWanted → (t.places ≢ []) × (WantsOrder request response → ⊥)
+  order_unwanted fault e = by (places_left fault (ap about e))
+    where
+      by : PlacesFault request response t.places kind → (t.places ≢ []) × (WantsOrder request response → ⊥)
+      by (Places.unwanted some wants is) = (some, wants)
+      by (Places.disordered some wants none is) = absurd cc
+
+  pub order_form : IsAnsweredFault g request response t kind → kind ≡ OrderForm → IsOrderless request response t.places
+  order_form fault e = by (places_left fault (ap about e))
+    where
+      by : PlacesFault request response t.places kind → IsOrderless request response t.places
+      by (Places.unwanted some wants is) = absurd cc
+      by (Places.disordered some wants none is) = none
+
+  births_left : IsAnsweredFault g request response t kind → about kind ≡ 3 → BirthFault request response t.births kind
+  births_left (of_moment late is) e = let a = ap about is in absurd cc
+  births_left (of_places f) e = let a = about_places f in absurd cc
+  births_left (of_fills f) e = let a = about_fills f in absurd cc
+  births_left (of_births f) e = f
+  births_left (of_asides some is) e = let a = ap about is in absurd cc
+
+  pub birth_unwanted : IsAnsweredFault g request response t kind → kind ≡ BirthNotWanted → AreBirthsWanted request response t.births → ⊥
+  birth_unwanted fault e = by (births_left fault (ap about e))
+    where
+      by : BirthFault request response t.births kind → AreBirthsWanted request response t.births → ⊥
+      by (Births.not_wanted none is) = none
+      by (Births.formless all some is) = absurd cc
+
+  pub birth_formless : IsAnsweredFault g request response t kind → kind ≡ BirthForm → AreBirthsWanted request response t.births × (t.births ≢ [])
+  birth_formless fault e = by (births_left fault (ap about e))
+    where
+      by : BirthFault request response t.births kind → AreBirthsWanted request response t.births × (t.births ≢ [])
+      by (Births.not_wanted none is) = absurd cc
+      by (Births.formless all some is) = (all, some)
+
+  pub some_aside : IsAnsweredFault g request response t kind → kind ≡ AsideForm → t.asides ≢ []
+  some_aside (of_moment late is) e = absurd cc
+  some_aside (of_places f) e = let a = about_places f in let b = ap about e in absurd cc
+  some_aside (of_fills f) e = let a = about_fills f in let b = ap about e in absurd cc
+  some_aside (of_births f) e = let a = about_births f in let b = ap about e in absurd cc
+  some_aside (of_asides some is) e = some
+
+  pub fills_left : IsAnsweredFault g request response t kind → kind ≢ MomentForm → kind ≢ OrderNotWanted → kind ≢ OrderForm → kind ≢ BirthNotWanted → kind ≢ BirthForm → kind ≢ AsideForm
+      → FillFault request response t.fills kind
+  fills_left (of_moment late is) moment unwanted orderless birth unformed aside = absurd (moment is)
+  fills_left (of_places (Places.unwanted some wants is)) moment unwanted orderless birth unformed aside = absurd (unwanted is)
+  fills_left (of_places (Places.disordered some wants none is)) moment unwanted orderless birth unformed aside = absurd (orderless is)
+  fills_left (of_fills fault) moment unwanted orderless birth unformed aside = fault
+  fills_left (of_births (Births.not_wanted none is)) moment unwanted orderless birth unformed aside = absurd (birth is)
+  fills_left (of_births (Births.formless all some is)) moment unwanted orderless birth unformed aside = absurd (unformed is)
+  fills_left (of_asides some is) moment unwanted orderless birth unformed aside = absurd (aside is)
+
+-- of fills that aren't wanted
+pub fill_unwanted : (request : RequestOf) (response : ResponseOf) (fills : List FillOf) (kind : WitnessKind) → FillFault request response fills kind → kind ≡ FillNotWanted
+    → AreWanted request response fills → ⊥
+fill_unwanted request response fills kind (Fills.unwanted none is) e = none
+fill_unwanted request response fills kind (Fills.missing all none is) e = absurd cc
+fill_unwanted request response fills kind (Fills.misformed all none some is) e = absurd cc
 
 -- what is told of an answer that can't be read
-pub unread_told : (marks : List MarkOf) (c : CallOf) (t : TurnOf) (kind : WitnessKind) (bytes : List ℕ) (fault : ReadFault) → IsRecorded marks c → c.response ≡ None → t.answer ≡ Some bytes
-    → AnswerSays c.request bytes (Err fault) → GivenFault c t kind → IfOk (unread fault) (TellsGiven c t kind)
-unread_told marks c t kind bytes (read.Outside o) r lacks some out fault =
-    (form_kind c t kind bytes o.item o.kind lacks some out fault, record { unended = has_no_end marks c r lacks; bytes = bytes; given = some; outside = out })
-unread_told marks c t kind bytes read.Memory r lacks some out fault = tt
+pub unread_told : (g : GrantsOf) (marks : List MarkOf) (c : CallOf) (t : TurnOf) (kind : WitnessKind) (bytes : List ℕ) (fault : ReadFault) → IsRecorded marks c → c.response ≡ None → t.answer ≡ Some bytes
+    → AnswerSays c.request bytes (Err fault) → GivenFault g c t kind → IfOk (unread fault) (TellsGiven g c t kind)
+unread_told g marks c t kind bytes (read.Outside o) r lacks some out fault =
+    (form_kind g c t kind bytes o.item o.kind lacks some out fault, record { unended = has_no_end marks c r lacks; bytes = bytes; given = some; outside = out })
+unread_told g marks c t kind bytes read.Memory r lacks some out fault = tt

@@ -1,5 +1,5 @@
 -- What holds at each place below one, and of each element below it.
-use Rattle.std.proofs.Common.{◌≡◌, ◌<◌, ◌≤◌, ◌⊎◌, inl, inr, ℕ, ◌+◌, List, length, Some, slice_get, sym, subst, arith, add-one}
+use Rattle.std.proofs.Common.{◌≡◌, ◌≢◌, ◌<◌, ◌≤◌, ◌⊎◌, inl, inr, ℕ, ◌+◌, List, [], ◌∷◌, length, Some, slice_get, refl, sym, subst, arith, add-one}
 use Rattle.kmipa_check.proofs.PlaceLemmas.{below_suc, at_within}
 
 abbrev pub Below : (ℕ → Type 0) → ℕ → Type 0
@@ -30,3 +30,8 @@ each_more P xs count x there holds h =
 
 pub each_all : {X : Type 0} (P : X → Type 0) (xs : List X) (count : ℕ) → length xs ≤ count → EachBelow P xs count → (place : ℕ) (x : X) → slice_get xs place ≡ Some x → P x
 each_all P xs count past h place x there = h place (omega (arith, at_within xs place x there, past)) x there
+
+-- a list that isn't empty has a length
+pub has_length : {X : Type 0} (xs : List X) → xs ≢ [] → 0 < length xs
+has_length [] some = absurd (some refl)
+has_length (x ∷ xs) some = omega (arith)

@@ -3,6 +3,7 @@ pub mod FailedLemmas
 pub mod FaultLemmas
 pub mod AnswerLemmas
 pub mod DisorderLemmas
-pub mod UnwantedLemmas
+pub mod PartLemmas
+pub mod FormlessLemmas
 pub mod LiftLemmas
 pub mod TurnLemmas

@@ -4,6 +4,7 @@ use Rattle.std.specs.String.{string_bytes}
 use Rattle.kmipa_record.specs.Marks.{MarkOf, begins}
 use Rattle.kmipa_record.specs.Witnesses.{TurnOf}
 use Rattle.kmipa_check.specs.Calls.{CallOf, AreCalls}
+use Rattle.kmipa_check.specs.Grants.{GrantsOf}
 use Rattle.kmipa_check.specs.Orders.{HasCall, IsLeftOut, NamesAt, NamesBefore, WitnessFaultAt}
 use Rattle.kmipa_check.specs.declared.fault.WitnessKind.{WitnessKind}
 use Rattle.kmipa_check.specs.declared.fault.WitnessKind.TheVariants as kinds
@@ -30,27 +31,27 @@ pub record IsFirstNamed (turns : List TurnOf) (place : ℕ) (number : ℤ) (turn
   pub first : NamesBefore turns earlier number → ⊥
 
 -- the turn is the first to name a call, and this is told of what it gives to it
-pub record TellsCall (calls : List CallOf) (turns : List TurnOf) (place : ℕ) (t : TurnOf) (kind : WitnessKind) (unfit : Unfit) : Type 0 where
+pub record TellsCall (g : GrantsOf) (calls : List CallOf) (turns : List TurnOf) (place : ℕ) (t : TurnOf) (kind : WitnessKind) (unfit : Unfit) : Type 0 where
   pub call : CallOf
   pub known : Contains calls call
   pub named : t.call ≡ call.number
   pub first : NamesBefore turns place t.call → ⊥
-  pub given : TellsGiven call t kind unfit
+  pub given : TellsGiven g call t kind unfit
 
 -- what is told of the turn at a place: it names no call; an earlier one names its call; or what it gives to its call
-abbrev pub TellsTurn : List CallOf → List TurnOf → ℕ → TurnOf → WitnessKind → Unfit → Type 0
-TellsTurn calls turns place t kind (Unknown count) = (kind ≡ kinds.UnknownCall) × (HasCall calls t.call → ⊥) × (count ≡ length calls)
-TellsTurn calls turns place t kind (Twice turn) = (kind ≡ kinds.Twice) × HasCall calls t.call × IsFirstNamed turns place t.call turn
-TellsTurn calls turns place t kind other = TellsCall calls turns place t kind other
+abbrev pub TellsTurn : GrantsOf → List CallOf → List TurnOf → ℕ → TurnOf → WitnessKind → Unfit → Type 0
+TellsTurn g calls turns place t kind (Unknown count) = (kind ≡ kinds.UnknownCall) × (HasCall calls t.call → ⊥) × (count ≡ length calls)
+TellsTurn g calls turns place t kind (Twice turn) = (kind ≡ kinds.Twice) × HasCall calls t.call × IsFirstNamed turns place t.call turn
+TellsTurn g calls turns place t kind other = TellsCall g calls turns place t kind other
 
 -- the turn at this place is told, with the call that it names, its client, and what is wrong
-pub record ExplainsTurn (marks : List MarkOf) (calls : List CallOf) (turns : List TurnOf) (place : ℕ) (kind : WitnessKind) (e : WitnessExplanation) : Type 0 where
+pub record ExplainsTurn (g : GrantsOf) (marks : List MarkOf) (calls : List CallOf) (turns : List TurnOf) (place : ℕ) (kind : WitnessKind) (e : WitnessExplanation) : Type 0 where
   pub turn : e.turn ≡ Some (place + 1)
   pub its : TurnOf
   pub there : slice_get turns place ≡ Some its
   pub named : its.call ≡ e.call
   pub client : TellsClient marks calls e.call (option_map string_bytes e.client)
-  pub unfit : TellsTurn calls turns place its kind e.unfit
+  pub unfit : TellsTurn g calls turns place its kind e.unfit
 
 -- the call of this number has ended, no turn names it, and it asks for these operations
 pub record IsUnnamed (calls : List CallOf) (turns : List TurnOf) (number : ℤ) (operations : List ℕ) : Type 0 where
@@ -72,16 +73,16 @@ pub record ExplainsUnnamed (marks : List MarkOf) (calls : List CallOf) (turns : 
   pub unfit : TellsUnnamed calls turns number e.unfit
 
 -- what is told of the fault of this kind at this turn, counted from 1; or, of `LeftOut`, at the call of this number
-pub data ExplainsFault (marks : List MarkOf) (calls : List CallOf) (turns : List TurnOf) (at : ℕ) (kind : WitnessKind) (e : WitnessExplanation) : Type 0 where
-  of_turn : (place : ℕ) → at ≡ place + 1 → ExplainsTurn marks calls turns place kind e → ExplainsFault marks calls turns at kind e
-  of_call : kind ≡ kinds.LeftOut → ExplainsUnnamed marks calls turns (pos at) e → ExplainsFault marks calls turns at kind e
+pub data ExplainsFault (g : GrantsOf) (marks : List MarkOf) (calls : List CallOf) (turns : List TurnOf) (at : ℕ) (kind : WitnessKind) (e : WitnessExplanation) : Type 0 where
+  of_turn : (place : ℕ) → at ≡ place + 1 → ExplainsTurn g marks calls turns place kind e → ExplainsFault g marks calls turns at kind e
+  of_call : kind ≡ kinds.LeftOut → ExplainsUnnamed marks calls turns (pos at) e → ExplainsFault g marks calls turns at kind e
 
--- it is an explanation of this fault of the witness, among the calls of the transcript
-pub record ExplainsWitness (marks : List MarkOf) (turns : List TurnOf) (at : ℕ) (kind : WitnessKind) (e : WitnessExplanation) : Type 0 where
+-- it is an explanation of this fault of the witness, among the calls of the transcript, where this is granted
+pub record ExplainsWitness (g : GrantsOf) (marks : List MarkOf) (turns : List TurnOf) (at : ℕ) (kind : WitnessKind) (e : WitnessExplanation) : Type 0 where
   pub calls : List CallOf
   pub are : AreCalls marks calls
-  pub explains : ExplainsFault marks calls turns at kind e
+  pub explains : ExplainsFault g marks calls turns at kind e
 
--- the witness has this fault, among the calls of the transcript
-abbrev pub HasFault : List MarkOf → List TurnOf → ℕ → WitnessKind → Type 0
-HasFault marks turns at kind = (calls : List CallOf) × AreCalls marks calls × WitnessFaultAt calls turns at kind
+-- the witness has this fault, among the calls of the transcript, where this is granted
+abbrev pub HasFault : GrantsOf → List MarkOf → List TurnOf → ℕ → WitnessKind → Type 0
+HasFault g marks turns at kind = (calls : List CallOf) × AreCalls marks calls × WitnessFaultAt g calls turns at kind

@@ -1,5 +1,5 @@
 -- How a faulty turn is found, and what its explanation stands on. Not promised: each fault of a witness has it.
-use Rattle.std.specs.Prelude.{◌≡◌, ◌⊎◌, ◌<◌, ℕ, ℤ, List, Contains, slice_get, Some, Result, Ok, Err}
+use Rattle.std.specs.Prelude.{◌≡◌, ◌≢◌, ◌<◌, ℕ, ◌+◌, ℤ, List, [], Contains, slice_get, Some, Result, Ok, Err}
 use Rattle.kmipa_msgs.specs.declared.fault.ReadFault.{ReadFault}
 use Rattle.kmipa_msgs.specs.declared.fault.ReadFault.TheVariants as read
 use Rattle.kmipa_msgs.specs.declared.response.Response.{Response}
@@ -7,14 +7,17 @@ use Rattle.kmipa_msgs.specs.Messages.{RequestOf, ResponseOf, response_of}
 use Rattle.kmipa_msgs.specs.Responses.{ResponseFault}
 use Rattle.kmipa_record.specs.Marks.{MarkOf, begins}
 use Rattle.kmipa_record.specs.Witnesses.{TurnOf}
+use Rattle.kmipa_check.specs.Births.{BirthFault}
 use Rattle.kmipa_check.specs.Calls.{CallOf, AreOutside, AreResponse}
 use Rattle.kmipa_check.specs.Fills.{FillFault}
-use Rattle.kmipa_check.specs.Orders.{GivenFault, IsLeftOut, NamesAt, NamesBefore}
+use Rattle.kmipa_check.specs.Grants.{GrantsOf}
+use Rattle.kmipa_check.specs.Moments.{IsUntimely}
+use Rattle.kmipa_check.specs.Orders.{GivenFault, IsLeftOut, NamesAt, NamesBefore, TurnFault}
 use Rattle.kmipa_check.specs.Places.{PlacesFault}
 use Rattle.kmipa_check.specs.declared.fault.CheckFault.{CheckFault}
 use Rattle.kmipa_check.specs.declared.fault.CheckFault.TheVariants.{Memory}
 use Rattle.kmipa_check.specs.declared.fault.WitnessKind.{WitnessKind}
-use Rattle.kmipa_check.specs.declared.fault.WitnessKind.TheVariants.{Twice}
+use Rattle.kmipa_check.specs.declared.fault.WitnessKind.TheVariants.{Twice, MomentForm, AsideForm}
 use Rattle.kmipa_unfit.specs.Explanations.{IsFirstNamed}
 use Rattle.kmipa_unfit.specs.UnfitTurns.{TellsGiven}
 use Rattle.kmipa_unfit.specs.declared.explanation.Unfit.{Unfit}
@@ -35,6 +38,10 @@ IsFound calls number c = Contains calls c × (c.number ≡ number)
 abbrev pub LeavesOut : List CallOf → List TurnOf → ℤ → Type 0
 LeavesOut calls turns number = (c : CallOf) × IsFound calls number c × IsLeftOut turns c
 
+-- this turn, counted from 1, has this fault
+abbrev pub IsTurnFault : GrantsOf → List CallOf → List TurnOf → ℕ → WitnessKind → Type 0
+IsTurnFault g calls turns at kind = (place : ℕ) × (at ≡ place + 1) × TurnFault g calls turns place kind
+
 -- the turn at this place stands before another, and is the first that names the call
 abbrev pub IsEarliest : List TurnOf → ℕ → ℤ → ℕ → Type 0
 IsEarliest turns place number earlier = (earlier < place) × NamesAt turns earlier number × (NamesBefore turns earlier number → ⊥)
@@ -45,9 +52,13 @@ AnswerSays request bytes (Ok response) = AreResponse request bytes (response_of 
 AnswerSays request bytes (Err (read.Outside o)) = AreOutside (λ t. ResponseFault t request) bytes o.item o.kind
 AnswerSays request bytes (Err read.Memory) = Unit {0}
 
--- the fault of a turn to a call with this response: of its places, or of its fills
-abbrev pub IsAnsweredFault : RequestOf → ResponseOf → TurnOf → WitnessKind → Type 0
-IsAnsweredFault request response t kind = PlacesFault request response t.places kind ⊎ FillFault request response t.fills kind
+-- the fault of a turn to a call with this response: of its moment, its places, its fills, its births, or the items that it sets aside
+pub data IsAnsweredFault (g : GrantsOf) (request : RequestOf) (response : ResponseOf) (t : TurnOf) (kind : WitnessKind) : Type 0 where
+  of_moment : IsUntimely g response.stamp t.moment → kind ≡ MomentForm → IsAnsweredFault g request response t kind
+  of_places : PlacesFault request response t.places kind → IsAnsweredFault g request response t kind
+  of_fills : FillFault request response t.fills kind → IsAnsweredFault g request response t kind
+  of_births : BirthFault request response t.births kind → IsAnsweredFault g request response t kind
+  of_asides : t.asides ≢ [] → kind ≡ AsideForm → IsAnsweredFault g request response t kind
 
 -- what it comes to that an answer can't be read
 abbrev pub unread : ReadFault → Result Unfit CheckFault
@@ -55,14 +66,14 @@ unread (read.Outside o) = Ok (Answer o)
 unread read.Memory = Err Memory
 
 -- the turn at this place names the call; where an earlier one does, too, the fault is that, and else it is that of what the turn gives
-abbrev pub IsNamedFault : CallOf → List TurnOf → ℕ → WitnessKind → Type 0
-IsNamedFault c turns place kind = (t : TurnOf) × (slice_get turns place ≡ Some t) × (t.call ≡ c.number) × (NamesBefore turns place t.call → kind ≡ Twice)
-    × ((NamesBefore turns place t.call → ⊥) → GivenFault c t kind)
+abbrev pub IsNamedFault : GrantsOf → CallOf → List TurnOf → ℕ → WitnessKind → Type 0
+IsNamedFault g c turns place kind = (t : TurnOf) × (slice_get turns place ≡ Some t) × (t.call ≡ c.number) × (NamesBefore turns place t.call → kind ≡ Twice)
+    × ((NamesBefore turns place t.call → ⊥) → GivenFault g c t kind)
 
 -- what is told of a turn that names a call
-abbrev pub TellsNamedBy : CallOf → List TurnOf → ℕ → TurnOf → WitnessKind → Unfit → Type 0
-TellsNamedBy c turns place t kind (unfit.Twice turn) = (kind ≡ Twice) × IsFirstNamed turns place t.call turn
-TellsNamedBy c turns place t kind other = (NamesBefore turns place t.call → ⊥) × TellsGiven c t kind other
+abbrev pub TellsNamedBy : GrantsOf → CallOf → List TurnOf → ℕ → TurnOf → WitnessKind → Unfit → Type 0
+TellsNamedBy g c turns place t kind (unfit.Twice turn) = (kind ≡ Twice) × IsFirstNamed turns place t.call turn
+TellsNamedBy g c turns place t kind other = (NamesBefore turns place t.call → ⊥) × TellsGiven g c t kind other
 
-abbrev pub TellsNamed : CallOf → List TurnOf → ℕ → WitnessKind → Unfit → Type 0
-TellsNamed c turns place kind u = (t : TurnOf) × (slice_get turns place ≡ Some t) × TellsNamedBy c turns place t kind u
+abbrev pub TellsNamed : GrantsOf → CallOf → List TurnOf → ℕ → WitnessKind → Unfit → Type 0
+TellsNamed g c turns place kind u = (t : TurnOf) × (slice_get turns place ≡ Some t) × TellsNamedBy g c turns place t kind u

@@ -1,7 +1,10 @@
 pub mod UnfitOrders
+pub mod UnfitParts
 pub mod UnfitFills
+pub mod UnfitBirths
 pub mod UnfitTurns
 pub mod Explanations
 pub mod OrderFinding
+pub mod PartFinding
 pub mod FillFinding
 pub mod Finding

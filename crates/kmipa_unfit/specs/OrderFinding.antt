@@ -20,6 +20,10 @@ IsBeyond numbers answered number = Contains numbers number × (IsWithin answered
 abbrev pub StandsAhead : List ℤ → ℕ → ℤ → Type 0
 StandsAhead numbers place number = (earlier : ℕ) × (earlier < place) × (slice_get numbers earlier ≡ Some number)
 
+-- it stands at this place, before another
+abbrev pub IsAhead : List ℤ → ℕ → ℤ → ℕ → Type 0
+IsAhead numbers place number earlier = (earlier < place) × (slice_get numbers earlier ≡ Some number)
+
 -- no number stands ahead of itself
 abbrev pub AreOnce : List ℤ → Type 0
 AreOnce numbers = (at : ℕ) (number : ℤ) → slice_get numbers at ≡ Some number → StandsAhead numbers at number → ⊥

@@ -6,26 +6,29 @@ ghost use Rattle.kmipa_record.specs.Marks.{AreRecorded, mark_of};
 ghost use Rattle.kmipa_record.specs.Transcripts.{transcript_of};
 ghost use Rattle.kmipa_record.specs.Witnesses.{TurnOf, turn_of, witness_of};
 ghost use Rattle.kmipa_check.specs.Calls.{AreCalls, call_of};
-ghost use Rattle.kmipa_check.specs.Orders.{HasCall, TurnFault};
-ghost use Rattle.kmipa_unfit.specs.Explanations.{ExplainsTurn, ExplainsUnnamed, ExplainsWitness, IsClientOf, HasFault};
-ghost use Rattle.kmipa_unfit.specs.Finding.{IsBegun, IsFound, LeavesOut};
+ghost use Rattle.kmipa_check.specs.Grants.{grants_of};
+ghost use Rattle.kmipa_check.specs.Orders.{HasCall};
+ghost use Rattle.kmipa_unfit.specs.Explanations.{ExplainsFault, ExplainsUnnamed, ExplainsWitness, IsClientOf, HasFault};
+ghost use Rattle.kmipa_unfit.specs.Finding.{IsBegun, IsFound, IsTurnFault, LeavesOut};
 
 use crate::explanation::{Unfit, WitnessExplanation};
 use crate::turns::{named_unfit, operations_of};
-use kmipa_check::{Call, CheckFault, WitnessFault, WitnessKind, read_calls};
+use kmipa_check::{Call, CheckFault, Grants, WitnessFault, WitnessKind, read_calls};
 use kmipa_record::{Mark, Transcript, Turn, Witness};
 use std::alloc::{AllocError, Global};
 
-/// What the fault of the witness means that a check of these files gave. Only want of memory is an error.
+/// What the fault of the witness means that a check of these files gave, where the declaration grants this. Only want of memory is an
+/// error.
 pub fn explain_witness(
     alloc: Global,
+    grants: &Grants,
     transcript: &Transcript,
     witness: &Witness,
     fault: WitnessFault,
 ) -> Result<WitnessExplanation, CheckFault>
     requires recorded { AreRecorded (transcript_of transcript.now) }
-    requires fault { HasFault (transcript_of transcript.now) (witness_of witness.now) fault.at fault.kind }
-    ensures explains { IfOk result (ExplainsWitness (transcript_of transcript.now)
+    requires fault { HasFault (grants_of grants.now) (transcript_of transcript.now) (witness_of witness.now) fault.at fault.kind }
+    ensures explains { IfOk result (ExplainsWitness (grants_of grants.now) (transcript_of transcript.now)
         (witness_of witness.now) fault.at fault.kind) }
     ensures memory { IfErr result (λ fault. fault ≡ CheckFault.Memory) }
 {
@@ -37,11 +40,11 @@ pub fn explain_witness(
         },
         _ => turn_told(
             alloc,
+            grants,
             &transcript.marks,
             &calls,
             &witness.turns,
-            fault.at - 1,
-            fault.kind,
+            fault,
         ),
     }
 }
@@ -71,34 +74,35 @@ fn unnamed_told(
     })
 }
 
-/// What is told of the turn at a place, counted from 0, that has this fault.
+/// What is told of a turn that has this fault.
 fn turn_told(
     alloc: Global,
+    grants: &Grants,
     marks: &[Mark],
     calls: &[Call],
     turns: &[Turn],
-    place: usize,
-    kind: WitnessKind,
+    fault: WitnessFault,
 ) -> Result<WitnessExplanation, CheckFault>
     requires recorded { AreRecorded (map mark_of marks.now) }
     requires calls { AreCalls (map mark_of marks.now) (map call_of calls.now) }
-    requires fault { TurnFault (map call_of calls.now) (map turn_of turns.now) place kind }
-    ensures explains { IfOk result (ExplainsTurn (map mark_of marks.now) (map call_of calls.now)
-        (map turn_of turns.now) place kind) }
+    requires fault { IsTurnFault (grants_of grants.now) (map call_of calls.now) (map turn_of turns.now) fault.at fault.kind }
+    ensures explains { IfOk result (ExplainsFault (grants_of grants.now) (map mark_of marks.now)
+        (map call_of calls.now) (map turn_of turns.now) fault.at fault.kind) }
     ensures memory { IfErr result (λ fault. fault ≡ CheckFault.Memory) }
 {
+    let place = fault.at - 1;
     let turn = &turns[place];
     let Some(call) = call_numbered(calls, turn.call) else {
         return Ok(WitnessExplanation {
-            turn: Some(place + 1),
+            turn: Some(fault.at),
             call: turn.call,
             client: None,
             unfit: Unfit::Unknown(calls.len()),
         });
     };
-    let unfit = named_unfit(alloc, call, turns, place, kind)?;
+    let unfit = named_unfit(alloc, grants, call, turns, place, fault.kind)?;
     Ok(WitnessExplanation {
-        turn: Some(place + 1),
+        turn: Some(fault.at),
         call: turn.call,
         client: Some(client_of(alloc, marks, call)?),
         unfit,

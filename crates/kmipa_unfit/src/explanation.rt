@@ -30,16 +30,36 @@ pub enum Unfit {
     Open,
     /// Of `AnswerForm`: where the answer is outside the profile.
     Answer(Outside),
+    /// Of `MomentForm`: the moment, and the Time Stamp that it isn't near.
+    Untimely(FarMoment),
     /// Of `OrderNotWanted`: the places, and why none are wanted.
     Ordered(Ordered),
     /// Of `OrderForm`: the places, and what is wrong with them.
     Disordered(Disorder),
     /// Of `FillNotWanted`: the first fill that isn't wanted.
-    FillUnwanted(UnwantedFill),
+    FillUnwanted(UnwantedPart),
     /// Of `FillMissing`: the first item whose payload is wanted, and that has no fill.
     FillMissing(MissingFill),
     /// Of `FillForm`: the first fill that isn't of the form of the payload that it is for.
     FillFormless(FormlessFill),
+    /// Of `BirthNotWanted`: the first birth that isn't wanted.
+    BirthUnwanted(UnwantedPart),
+    /// Of `BirthForm`: the item that the first birth names. No declaration that is judged names an attribute that a server may give of its
+    /// own, so no birth has its form.
+    BirthFormless(i32),
+    /// Of `AsideForm`: the first item that the turn sets aside.
+    Aside(i32),
+}
+
+/// A moment that a turn gives, and that isn't near the Time Stamp of its call's response.
+#[derive(Clone, Copy, PartialEq, Eq)]
+pub struct FarMoment {
+    /// The moment, in seconds since 1970.
+    pub moment: i64,
+    /// The Time Stamp, in seconds since 1970.
+    pub stamp: i64,
+    /// How many seconds the two may be apart.
+    pub tolerance: i32,
 }
 
 /// Places that a turn gives, where none are wanted.
@@ -84,30 +104,39 @@ pub enum Wrong {
     NotLast(usize),
 }
 
-/// A fill that isn't wanted.
+/// The parts of a turn that name an item.
 #[derive(Clone, Copy, PartialEq, Eq)]
-pub struct UnwantedFill {
-    /// Which of the turn's fills it is, counted from 1.
-    pub fill: usize,
+pub enum Part {
+    /// The payload that its answer leaves out.
+    Fill,
+    /// Attributes that the server itself gives the object that it makes.
+    Birth,
+}
+
+/// A fill or a birth that isn't wanted.
+#[derive(Clone, Copy, PartialEq, Eq)]
+pub struct UnwantedPart {
+    /// Which of the turn's fills, or of its births, it is, counted from 1.
+    pub number: usize,
     /// The number of the item that it names.
     pub item: i32,
     pub why: Unwanted,
 }
 
-/// Why a fill isn't wanted.
+/// Why a fill or a birth isn't wanted.
 #[derive(Clone, Copy, PartialEq, Eq)]
 pub enum Unwanted {
     /// The call has no such item that is answered; the answered ones are those from 1 to this one.
     Unanswered(usize),
-    /// The item's answer has another status than Undone.
+    /// The item's answer has another status: for a fill than Undone, for a birth than Success and Undone.
     Status(Status),
-    /// The item's answer has its payload.
+    /// The item's answer has its payload. It is so of a fill alone.
     Present,
-    /// The item asks for an operation whose payload is never wanted: its number.
+    /// The item asks for an operation whose payload is never wanted, or that makes no object: its number.
     Needless(u32),
     /// The item asks for one operation, and the answer names another: their numbers.
     Operations(u32, u32),
-    /// An earlier fill names the same item: which one, counted from 1.
+    /// An earlier fill, or birth, names the same item: which one, counted from 1.
     Second(usize),
 }
 

@@ -1,20 +1,18 @@
 //! The fills that a turn gives: which isn't wanted, which is missing, and which isn't of its form.
 
-ghost use Rattle.std.specs.Prelude.{◌≡◌, ◌<◌, IfErr, IfOk, MatchOption, length, map};
-ghost use Rattle.kmipa_msgs.specs.Messages.{answer_of, ask_of, request_of, response_of};
-ghost use Rattle.kmipa_msgs.specs.Wanted.{Wanted};
+ghost use Rattle.std.specs.Prelude.{◌≡◌, IfErr, IfOk, map};
+ghost use Rattle.kmipa_msgs.specs.Messages.{ask_of, request_of, response_of};
 ghost use Rattle.kmipa_record.specs.Witnesses.{fill_of};
-ghost use Rattle.kmipa_check.specs.Fills.{AreWanted, FillFault, IsFor, IsWanted, NoneMissing, SomeFormless, HasFillFor, IsWantedItem};
+ghost use Rattle.kmipa_check.specs.Fills.{AreWanted, FillFault, IsFor, IsWanted, NoneMissing, SomeFormless, HasFillFor};
 ghost use Rattle.kmipa_check.specs.Deciding.{Decided};
-ghost use Rattle.kmipa_unfit.specs.UnfitFills.{IsFormlessFill, IsMissingFill, IsUnwantedFill, TellsFill, UnwantedAnswer, UnwantedItem};
-ghost use Rattle.kmipa_unfit.specs.FillFinding.{FillSays, IsAhead, IsAlone, IsWantedFill, UnwantedAt};
+ghost use Rattle.kmipa_unfit.specs.UnfitFills.{IsFormlessFill, IsMissingFill, TellsFill, items_filled};
+ghost use Rattle.kmipa_unfit.specs.FillFinding.{FillSays};
 
-use crate::explanation::{FormlessFill, MissingFill, Unfit, Unwanted, UnwantedFill};
-use crate::orders::{answered_count, is_item, item_place};
+use crate::explanation::{FormlessFill, MissingFill, Part, Unfit};
+use crate::orders::{is_item, item_place};
+use crate::parts::unwanted_part;
 use kmipa_check::{CheckFault, WitnessKind};
-use kmipa_msgs::{
-    Answer, Ask, OutsideKind, ReadFault, Request, Response, Status, is_wanted, read_payload,
-};
+use kmipa_msgs::{Ask, OutsideKind, ReadFault, Request, Response, is_wanted, read_payload};
 use kmipa_record::Fill;
 use kmipa_ttlv::lend;
 use std::alloc::{AllocError, Global};
@@ -33,109 +31,24 @@ pub fn fill_unfit(
     ensures memory { IfErr result (λ fault. fault ≡ CheckFault.Memory) }
 {
     match kind {
-        WitnessKind::FillNotWanted => Ok(Unfit::FillUnwanted(unwanted_fill(
-            request, response, fills,
-        ))),
+        WitnessKind::FillNotWanted => {
+            let items = fill_items(alloc, fills)?;
+            Ok(Unfit::FillUnwanted(unwanted_part(request, response, &items, Part::Fill)))
+        }
         WitnessKind::FillMissing => Ok(Unfit::FillMissing(missing_fill(request, response, fills))),
         _ => Ok(Unfit::FillFormless(formless_fill(alloc, request, response, fills)?)),
     }
 }
 
-/// The first fill that isn't wanted.
-fn unwanted_fill(request: &Request, response: &Response, fills: &[Fill]) -> UnwantedFill
-    requires { AreWanted (request_of request.now) (response_of response.now) (map fill_of fills.now) → ⊥ }
-    ensures { IsUnwantedFill (request_of request.now) (response_of response.now) (map fill_of fills.now) result }
+/// The items that the fills name.
+fn fill_items(alloc: Global, fills: &[Fill]) -> Result<Vec<i32>, AllocError>
+    ensures { IfOk result (λ items. items.items ≡ items_filled (map fill_of fills.now)) }
 {
-    let mut at = 0;
-    'fills: while at < fills.len() {
-        if let Some(why) = unwanted_at(request, response, fills, at) {
-            return UnwantedFill {
-                fill: at + 1,
-                item: fills[at].item,
-                why,
-            };
-        }
-        at += 1;
+    let mut items = Vec::new(alloc);
+    for fill in fills {
+        items.push(fill.item)?;
     }
-    UnwantedFill {
-        fill: 0,
-        item: 0,
-        why: Unwanted::Present,
-    }
-}
-
-/// Why the fill at a place, counted from 0, isn't wanted.
-fn unwanted_at(
-    request: &Request,
-    response: &Response,
-    fills: &[Fill],
-    at: usize,
-) -> Option<Unwanted>
-    requires { at < length fills.now }
-    ensures { MatchOption result
-        (IsWantedFill (request_of request.now) (response_of response.now) (map fill_of fills.now) at)
-        (UnwantedAt (request_of request.now) (response_of response.now) (map fill_of fills.now) at) }
-{
-    let item = fills[at].item;
-    if let Some(why) = item_unwanted(request, response, item) {
-        return Some(why);
-    }
-    match earlier_fill(fills, at, item) {
-        Some(earlier) => Some(Unwanted::Second(earlier + 1)),
-        None => None,
-    }
-}
-
-/// Why no fill is wanted for the item of this number.
-fn item_unwanted(request: &Request, response: &Response, item: i32) -> Option<Unwanted>
-    ensures { MatchOption result (IsWantedItem (request_of request.now) (response_of response.now) item)
-        (UnwantedItem (request_of request.now) (response_of response.now) item) }
-{
-    let answered = answered_count(request, response);
-    if item < 1 {
-        return Some(Unwanted::Unanswered(answered));
-    }
-    let place = item_place(item);
-    if place >= answered {
-        return Some(Unwanted::Unanswered(answered));
-    }
-    answer_unwanted(&request.items[place], &response.items[place])
-}
-
-/// Why the payload of an answer isn't wanted.
-fn answer_unwanted(ask: &Ask, answer: &Answer) -> Option<Unwanted>
-    ensures { MatchOption result (Wanted (ask_of ask.now) (answer_of answer.now))
-        (UnwantedAnswer (ask_of ask.now) (answer_of answer.now)) }
-{
-    if answer.status != Status::Undone {
-        return Some(Unwanted::Status(answer.status));
-    }
-    if answer.payload.is_some() {
-        return Some(Unwanted::Present);
-    }
-    if is_wanted(ask, answer) {
-        return None;
-    }
-    match answer.operation {
-        Some(named) if named != ask.number() => { Some(Unwanted::Operations(ask.number(), named)) }
-        _ => Some(Unwanted::Needless(ask.number())),
-    }
-}
-
-/// The first fill before a place that names the item of this number.
-fn earlier_fill(fills: &[Fill], place: usize, item: i32) -> Option<usize>
-    requires { place < length fills.now }
-    ensures { MatchOption result (IsAlone (map fill_of fills.now) place item)
-        (IsAhead (map fill_of fills.now) place item) }
-{
-    let mut at = 0;
-    'fills: while at < place {
-        if fills[at].item == item {
-            return Some(at);
-        }
-        at += 1;
-    }
-    None
+    Ok(items)
 }
 
 /// The first item whose payload is wanted, and that has no fill.

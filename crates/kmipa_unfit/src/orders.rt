@@ -6,7 +6,7 @@ ghost use Rattle.kmipa_batch.specs.Shapes.{is_failed};
 ghost use Rattle.kmipa_check.specs.Deciding.{Decided};
 ghost use Rattle.kmipa_check.specs.Places.{WantsOrder};
 ghost use Rattle.kmipa_unfit.specs.UnfitOrders.{AreAnswered, IsDisordered, IsOrderTold, IsOrdered, IsTwice, IsWrong};
-ghost use Rattle.kmipa_unfit.specs.OrderFinding.{AreOnce, AreWithin, FailsFirst, HasItem, HaveAll, IsBeyond, IsLeft, IsOrderless, IsWithin, StandsAhead};
+ghost use Rattle.kmipa_unfit.specs.OrderFinding.{AreOnce, AreWithin, FailsFirst, HasItem, HaveAll, IsAhead, IsBeyond, IsLeft, IsOrderless, IsWithin, StandsAhead};
 
 use crate::explanation::{Disorder, OrderTold, Ordered, Wrong};
 use kmipa_batch::is_refused_message;
@@ -141,14 +141,22 @@ fn stands_ahead(numbers: &[i32], place: usize, number: i32) -> bool
     requires { place ≤ length numbers.now }
     ensures { Decided result (StandsAhead numbers.now place number) }
 {
+    earlier_place(numbers, place, number).is_some()
+}
+
+/// The first place before this one, counted from 0, where a number stands.
+pub fn earlier_place(numbers: &[i32], place: usize, number: i32) -> Option<usize>
+    requires { place ≤ length numbers.now }
+    ensures { MatchOption result (StandsAhead numbers.now place number → ⊥) (IsAhead numbers.now place number) }
+{
     let mut at = 0;
     'numbers: while at < place {
         if numbers[at] == number {
-            return true;
+            return Some(at);
         }
         at += 1;
     }
-    false
+    None
 }
 
 /// The first item up to this one whose number isn't there.

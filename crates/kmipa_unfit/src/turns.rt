@@ -6,14 +6,17 @@ ghost use Rattle.kmipa_record.specs.Marks.{MarkOf};
 ghost use Rattle.kmipa_record.specs.Witnesses.{turn_of};
 ghost use Rattle.kmipa_check.specs.CallReading.{ItemRead};
 ghost use Rattle.kmipa_check.specs.Calls.{IsRecorded, call_of};
+ghost use Rattle.kmipa_check.specs.Grants.{grants_of};
+ghost use Rattle.kmipa_check.specs.Moments.{IsUntimely};
 ghost use Rattle.kmipa_check.specs.Orders.{GivenFault, NamesBefore};
 ghost use Rattle.kmipa_unfit.specs.Finding.{AnswerSays, IsAnsweredFault, IsEarliest, IsNamedFault, TellsNamed, unread};
-ghost use Rattle.kmipa_unfit.specs.UnfitTurns.{TellsAnswered, TellsGiven, numbers_asked};
+ghost use Rattle.kmipa_unfit.specs.UnfitTurns.{IsFarMoment, TellsAnswered, TellsGiven, numbers_asked};
 
-use crate::explanation::Unfit;
+use crate::births::unwanted_birth;
+use crate::explanation::{FarMoment, Unfit};
 use crate::fills::fill_unfit;
 use crate::orders::{disordered, ordered};
-use kmipa_check::{Call, CheckFault, WitnessKind};
+use kmipa_check::{Call, CheckFault, Grants, WitnessKind};
 use kmipa_msgs::{Outside, OutsideKind, ReadFault, Request, Response, read_response};
 use kmipa_record::Turn;
 use kmipa_ttlv::{View, decode_view};
@@ -49,62 +52,65 @@ pub fn operations_of(alloc: Global, request: &Request) -> Result<Vec<u32>, Alloc
 /// What is wrong with the turn at a place, counted from 0, that names this call.
 pub fn named_unfit(
     alloc: Global,
+    grants: &Grants,
     call: &Call,
     turns: &[Turn],
     place: usize,
     kind: WitnessKind,
 ) -> Result<Unfit, CheckFault>
     requires recorded { (marks : List MarkOf) × IsRecorded marks (call_of call.now) }
-    requires named { IsNamedFault (call_of call.now) (map turn_of turns.now) place kind }
-    ensures tells { IfOk result (TellsNamed (call_of call.now) (map turn_of turns.now) place kind) }
+    requires named { IsNamedFault (grants_of grants.now) (call_of call.now) (map turn_of turns.now) place kind }
+    ensures tells { IfOk result (TellsNamed (grants_of grants.now) (call_of call.now) (map turn_of turns.now) place kind) }
     ensures memory { IfErr result (λ fault. fault ≡ CheckFault.Memory) }
 {
     let turn = &turns[place];
     match first_named(turns, place, turn.call) {
         Some(earlier) => Ok(Unfit::Twice(earlier + 1)),
-        None => given_unfit(alloc, call, turn, kind),
+        None => given_unfit(alloc, grants, call, turn, kind),
     }
 }
 
 /// What is wrong with what a turn gives to the call that it is the first to name.
 fn given_unfit(
     alloc: Global,
+    grants: &Grants,
     call: &Call,
     turn: &Turn,
     kind: WitnessKind,
 ) -> Result<Unfit, CheckFault>
     requires recorded { (marks : List MarkOf) × IsRecorded marks (call_of call.now) }
-    requires given { GivenFault (call_of call.now) (turn_of turn.now) kind }
-    ensures tells { IfOk result (TellsGiven (call_of call.now) (turn_of turn.now) kind) }
+    requires given { GivenFault (grants_of grants.now) (call_of call.now) (turn_of turn.now) kind }
+    ensures tells { IfOk result (TellsGiven (grants_of grants.now) (call_of call.now) (turn_of turn.now) kind) }
     ensures memory { IfErr result (λ fault. fault ≡ CheckFault.Memory) }
 {
     let Some(response) = &call.response else {
-        return open_unfit(alloc, call, turn, kind);
+        return open_unfit(alloc, grants, call, turn, kind);
     };
     if turn.answer.is_some() {
         return Ok(Unfit::Ended);
     }
-    answered_unfit(alloc, &call.request, response, turn, kind)
+    answered_unfit(alloc, grants, &call.request, response, turn, kind)
 }
 
 /// What is wrong with what a turn gives to an open call.
 fn open_unfit(
     alloc: Global,
+    grants: &Grants,
     call: &Call,
     turn: &Turn,
     kind: WitnessKind,
 ) -> Result<Unfit, CheckFault>
     requires recorded { (marks : List MarkOf) × IsRecorded marks (call_of call.now) }
     requires open { (call_of call.now).response ≡ None }
-    requires given { GivenFault (call_of call.now) (turn_of turn.now) kind }
-    ensures tells { IfOk result (TellsGiven (call_of call.now) (turn_of turn.now) kind) }
+    requires given { GivenFault (grants_of grants.now) (call_of call.now) (turn_of turn.now) kind }
+    ensures tells { IfOk result (TellsGiven (grants_of grants.now) (call_of call.now) (turn_of turn.now) kind) }
     ensures memory { IfErr result (λ fault. fault ≡ CheckFault.Memory) }
 {
     let Some(answer) = &turn.answer else {
         return Ok(Unfit::Open);
     };
     match answer_in(alloc, answer, &call.request) {
-        Ok(response) => answered_unfit(alloc, &call.request, &response, turn, kind),
+        Ok(response) => answered_unfit(alloc, grants, &call.request, &response, turn, kind),
         Err(fault) => unread(fault),
     }
 }
@@ -146,20 +152,24 @@ fn whole_item(bytes: &[u8]) -> Option<View<'_>>
     }
 }
 
-/// What is wrong with the places or the fills that a turn gives to a call with this response.
+/// What is wrong with what a turn gives to a call with this response.
 fn answered_unfit(
     alloc: Global,
+    grants: &Grants,
     request: &Request,
     response: &Response,
     turn: &Turn,
     kind: WitnessKind,
 ) -> Result<Unfit, CheckFault>
-    requires { IsAnsweredFault (request_of request.now) (response_of response.now) (turn_of turn.now) kind }
-    ensures tells { IfOk result (TellsAnswered (request_of request.now) (response_of response.now)
+    requires { IsAnsweredFault (grants_of grants.now) (request_of request.now) (response_of response.now) (turn_of turn.now) kind }
+    ensures tells { IfOk result (TellsAnswered (grants_of grants.now) (request_of request.now) (response_of response.now)
         (turn_of turn.now) kind) }
     ensures memory { IfErr result (λ fault. fault ≡ CheckFault.Memory) }
 {
     match kind {
+        WitnessKind::MomentForm => {
+            Ok(Unfit::Untimely(far_moment(grants, response, turn.moment)))
+        }
         WitnessKind::OrderNotWanted => Ok(Unfit::Ordered(ordered(
             alloc,
             request,
@@ -172,6 +182,26 @@ fn answered_unfit(
             response,
             &turn.places,
         )?)),
+        WitnessKind::BirthNotWanted => Ok(Unfit::BirthUnwanted(unwanted_birth(
+            alloc,
+            request,
+            response,
+            &turn.births,
+        )?)),
+        WitnessKind::BirthForm => Ok(Unfit::BirthFormless(turn.births[0].item)),
+        WitnessKind::AsideForm => Ok(Unfit::Aside(turn.asides[0])),
         _ => fill_unfit(alloc, request, response, &turn.fills, kind),
+    }
+}
+
+/// The moment that isn't near the Time Stamp of the response.
+fn far_moment(grants: &Grants, response: &Response, given: Option<i64>) -> FarMoment
+    requires { IsUntimely (grants_of grants.now) (response_of response.now).stamp given }
+    ensures { IsFarMoment (grants_of grants.now) (response_of response.now) given result }
+{
+    FarMoment {
+        moment: given.unwrap_or(response.stamp),
+        stamp: response.stamp,
+        tolerance: grants.tolerance,
     }
 }

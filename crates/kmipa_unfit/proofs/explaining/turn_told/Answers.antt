@@ -1,4 +1,4 @@
-use Rattle.std.proofs.Common.{rules, ◌≡◌, ◌∙◌, ◌<◌, ℤ, length, map, refl, sym, subst, arith}
+use Rattle.std.proofs.Common.{rules, ◌≡◌, ◌∙◌, ◌<◌, ◌+◌, ◌-◌, ℤ, Some, length, map, sym, ap, subst, arith}
 use mir.Val.{SFits}
 use mir.Syntax.{w32}
 use Rattle.std.proofs.lemmas.Int.{to_z-of_z}
@@ -7,11 +7,12 @@ use Rattle.std.specs.String.{string_bytes}
 use Rattle.kmipa_record.specs.Marks.{mark_of}
 use Rattle.kmipa_record.specs.Witnesses.{TurnOf, turn_of}
 use Rattle.kmipa_check.specs.Calls.{CallOf, call_of}
+use Rattle.kmipa_check.specs.Grants.{grants_of}
 use Rattle.kmipa_check.specs.Orders.{HasCall}
 use Rattle.kmipa_check.proofs.PlaceLemmas.{at_within, mapped_at}
-use Rattle.kmipa_unfit.specs.Explanations.{IsClientOf}
+use Rattle.kmipa_unfit.specs.Explanations.{IsClientOf, of_turn}
 use Rattle.kmipa_unfit.specs.Finding.{IsFound, TellsNamedBy}
-use Rattle.kmipa_unfit.proofs.FaultLemmas.{begun, fault_within, named_fault, recorded, unknown_of}
+use Rattle.kmipa_unfit.proofs.FaultLemmas.{begun, fault_there, fault_within, named_fault, recorded, unknown_of}
 use Rattle.kmipa_unfit.proofs.LiftLemmas.{of_named}
 use Rattle.kmipa_unfit.proofs.explaining.turn_told.Goals as goal
 
@@ -22,19 +23,24 @@ returns-in_default-clause-explains c =
     let turn = turn_of c.index-turns-place.result in
     let number : ℤ = c.index-turns-place.result.call in
     let fits : SFits w32 number = search rules in
-    let t = fault_within calls turns c.args.place c.args.kind c.requires.fault in
-    let within : c.args.place < length c.args.turns.now = omega (arith, at_within turns c.args.place t.0 t.1, length-map c.args.turns.now turn_of) in
-    let there = mapped_at turn_of c.args.turns.now c.args.place c.index-turns-place.result within c.index-turns-place.is in
+    let g = grants_of c.args.grants.now in
+    let place = c.args.fault.at - 1 in
+    let kind = c.args.fault.kind in
+    let fault = fault_there g calls turns c.args.fault.at kind c.requires.fault in
+    let t = fault_within g calls turns place kind fault in
+    let within : place < length c.args.turns.now = omega (arith, at_within turns place t.0 t.1, length-map c.args.turns.now turn_of) in
+    let there = mapped_at turn_of c.args.turns.now place c.index-turns-place.result within c.index-turns-place.is in
     let N : ℤ → Type 0 = λ z. HasCall calls z → ⊥ in
     let none : HasCall calls number → ⊥ = subst N (to_z-of_z w32 number fits) c.in_default.ensures in
-    record {
-      turn = refl;
+    let counted : c.args.fault.at ≡ place + 1 = omega (arith, c.requires.fault.1) in
+    of_turn place counted (record {
+      turn = ap Some counted;
       its = turn;
       there = there;
       named = sym (to_z-of_z w32 number fits);
       client = subst N (sym (to_z-of_z w32 number fits)) none;
-      unfit = (unknown_of calls turns c.args.place c.args.kind turn there c.requires.fault none, none, sym (length-map c.args.calls.now call_of));
-    }
+      unfit = (unknown_of g calls turns place kind turn there fault none, none, sym (length-map c.args.calls.now call_of));
+    })
 
 pub named_unfit-requires : goal.named_unfit-requires
 named_unfit-requires c =
@@ -47,12 +53,16 @@ named_unfit-requires c =
     let fits : SFits w32 number = search rules in
     let F : ℤ → Type 0 = λ z. IsFound calls z call in
     let found : IsFound calls number call = subst F (to_z-of_z w32 number fits) c.in-Some.ensures in
-    let t = fault_within calls turns c.args.place c.args.kind c.requires.fault in
-    let within : c.args.place < length c.args.turns.now = omega (arith, at_within turns c.args.place t.0 t.1, length-map c.args.turns.now turn_of) in
-    let there = mapped_at turn_of c.args.turns.now c.args.place c.index-turns-place.result within c.index-turns-place.is in
+    let g = grants_of c.args.grants.now in
+    let place = c.args.fault.at - 1 in
+    let kind = c.args.fault.kind in
+    let fault = fault_there g calls turns c.args.fault.at kind c.requires.fault in
+    let t = fault_within g calls turns place kind fault in
+    let within : place < length c.args.turns.now = omega (arith, at_within turns place t.0 t.1, length-map c.args.turns.now turn_of) in
+    let there = mapped_at turn_of c.args.turns.now place c.index-turns-place.result within c.index-turns-place.is in
     record {
       recorded = (marks, recorded marks calls number call c.requires.calls found);
-      named = named_fault marks calls turns c.args.place c.args.kind c.requires.recorded c.requires.calls c.requires.fault turn there call found;
+      named = named_fault g marks calls turns place kind c.requires.recorded c.requires.calls fault turn there call found;
     }
 
 pub client_of-requires : goal.client_of-requires
@@ -76,19 +86,24 @@ returns-clause-explains c =
     let fits : SFits w32 number = search rules in
     let F : ℤ → Type 0 = λ z. IsFound calls z call in
     let found : IsFound calls number call = subst F (to_z-of_z w32 number fits) c.in-Some.ensures in
-    let t = fault_within calls turns c.args.place c.args.kind c.requires.fault in
-    let within : c.args.place < length c.args.turns.now = omega (arith, at_within turns c.args.place t.0 t.1, length-map c.args.turns.now turn_of) in
-    let there = mapped_at turn_of c.args.turns.now c.args.place c.index-turns-place.result within c.index-turns-place.is in
+    let g = grants_of c.args.grants.now in
+    let place = c.args.fault.at - 1 in
+    let kind = c.args.fault.kind in
+    let fault = fault_there g calls turns c.args.fault.at kind c.requires.fault in
+    let t = fault_within g calls turns place kind fault in
+    let within : place < length c.args.turns.now = omega (arith, at_within turns place t.0 t.1, length-map c.args.turns.now turn_of) in
+    let there = mapped_at turn_of c.args.turns.now place c.index-turns-place.result within c.index-turns-place.is in
     let told = c.in_ok-unfit.ensures.tells in
     let at = told.1 in
     let same : told.0 ≡ turn = cc in
-    let T : TurnOf → Type 0 = λ u. TellsNamedBy call turns c.args.place u c.args.kind c.in_ok-unfit.unfit in
+    let T : TurnOf → Type 0 = λ u. TellsNamedBy g call turns place u kind c.in_ok-unfit.unfit in
     let N : ℤ → Type 0 = λ z. IsClientOf marks z (string_bytes c.in_ok-client_of.field-0) in
-    record {
-      turn = refl;
+    let counted : c.args.fault.at ≡ place + 1 = omega (arith, c.requires.fault.1) in
+    of_turn place counted (record {
+      turn = ap Some counted;
       its = turn;
       there = there;
       named = sym (to_z-of_z w32 number fits);
       client = subst N (found.1 ∙ sym (to_z-of_z w32 number fits)) c.in_ok-client_of.ensures;
-      unfit = of_named calls turns c.args.place turn c.args.kind call found.0 (sym found.1) c.in_ok-unfit.unfit (subst T same told.2);
-    }
+      unfit = of_named g calls turns place turn kind call found.0 (sym found.1) c.in_ok-unfit.unfit (subst T same told.2);
+    })

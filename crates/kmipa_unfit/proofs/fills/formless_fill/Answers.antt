@@ -10,9 +10,10 @@ use Rattle.kmipa_check.proofs.FillingLemmas.{fill_for, wanted_from_one, wanted_p
 use Rattle.kmipa_check.proofs.PlaceLemmas.{mapped_at}
 use Rattle.kmipa_msgs.specs.declared.kind.OutsideKind.{OutsideKind}
 use Rattle.kmipa_unfit.specs.FillFinding.{FillSays}
-use Rattle.kmipa_unfit.specs.UnfitFills.{IsFormlessAt, number_asked}
+use Rattle.kmipa_unfit.specs.UnfitFills.{IsFormlessAt}
+use Rattle.kmipa_unfit.specs.UnfitParts.{number_asked}
 use Rattle.kmipa_unfit.proofs.BelowLemmas.{below_more}
-use Rattle.kmipa_unfit.proofs.UnwantedLemmas.{formed_here, says_form, some_formless}
+use Rattle.kmipa_unfit.proofs.FormlessLemmas.{formed_here, says_form, some_formless}
 use Rattle.kmipa_unfit.proofs.fills.formless_fill.Goals as goal
 
 pub item_place-place-requires : goal.item_place-place-requires

@@ -5,7 +5,7 @@ use Rattle.kmipa_record.specs.Witnesses.{fill_of}
 use Rattle.kmipa_check.proofs.FillLemmas.{pair_left}
 use Rattle.kmipa_check.proofs.FillingLemmas.{have_all}
 use Rattle.kmipa_check.proofs.PlaceLemmas.{mapped_at}
-use Rattle.kmipa_unfit.specs.UnfitFills.{number_asked}
+use Rattle.kmipa_unfit.specs.UnfitParts.{number_asked}
 use Rattle.kmipa_unfit.proofs.fills.missing_fill.Goals as goal
 
 pub returns-then-not-has_fill : goal.returns-then-not-has_fill

@@ -4,6 +4,7 @@ use Rattle.kmipa_msgs.specs.Messages.{response_of}
 use Rattle.kmipa_record.specs.Entries.{items_of}
 use Rattle.kmipa_record.specs.Witnesses.{turn_of}
 use Rattle.kmipa_check.specs.Calls.{call_of}
+use Rattle.kmipa_check.specs.Grants.{grants_of}
 use Rattle.kmipa_check.specs.Steps.{IsAnswered, recorded}
 use Rattle.kmipa_check.proofs.FillingLemmas.{some_not}
 use Rattle.kmipa_unfit.proofs.AnswerLemmas.{answered_fault, ended_kind, has_end, none_of}
@@ -18,7 +19,7 @@ returns-then-is_some-clause-tells c =
     let has : call.response ≡ Some response = ap (option_map response_of) c.in-Some.is in
     let some = some_not items_of c.args.turn.now.answer c.is_some.result c.is_some.ensures c.if-is_some.true in
     let e = has_end c.requires.recorded.0 call response c.requires.recorded.1 has in
-    (ended_kind call turn c.args.kind response has some c.requires.given, record { end = e.0; ended = e.1; given = some })
+    (ended_kind (grants_of c.args.grants.now) call turn c.args.kind response has some c.requires.given, record { end = e.0; ended = e.1; given = some })
 
 pub answered_unfit-requires : goal.answered_unfit-requires
 answered_unfit-requires c =
@@ -27,7 +28,7 @@ answered_unfit-requires c =
     let response = response_of c.in-Some.response in
     let has : call.response ≡ Some response = ap (option_map response_of) c.in-Some.is in
     let none : turn.answer ≡ None = none_of items_of c.args.turn.now.answer c.is_some.result c.is_some.ensures c.if-is_some.false in
-    answered_fault call turn c.args.kind response (recorded has none) c.requires.given
+    answered_fault (grants_of c.args.grants.now) call turn c.args.kind response (recorded has none) c.requires.given
 
 pub returns-clause-tells : goal.returns-clause-tells
 returns-clause-tells c =
@@ -37,4 +38,4 @@ returns-clause-tells c =
     let has : call.response ≡ Some response = ap (option_map response_of) c.in-Some.is in
     let none : turn.answer ≡ None = none_of items_of c.args.turn.now.answer c.is_some.result c.is_some.ensures c.if-is_some.false in
     let answered : IsAnswered call turn response = recorded has none in
-    IfOk-weaker c.answered_unfit.result _ _ (λ unfit told. of_response call turn c.args.kind response answered unfit told) c.answered_unfit.ensures.tells
+    IfOk-weaker c.answered_unfit.result _ _ (λ unfit told. of_response (grants_of c.args.grants.now) call turn c.args.kind response answered unfit told) c.answered_unfit.ensures.tells

@@ -6,6 +6,7 @@ use Rattle.std.proofs.lemmas.List.{length-map}
 use Rattle.std.proofs.lemmas.Result.{IfOk-weaker}
 use Rattle.kmipa_record.specs.Witnesses.{TurnOf, turn_of}
 use Rattle.kmipa_check.specs.Calls.{call_of}
+use Rattle.kmipa_check.specs.Grants.{grants_of}
 use Rattle.kmipa_check.specs.Orders.{GivenFault, NamesBefore}
 use Rattle.kmipa_check.proofs.PlaceLemmas.{at_within, mapped_at}
 use Rattle.kmipa_unfit.specs.Finding.{IsEarliest}
@@ -26,7 +27,7 @@ given_unfit-requires-clause-given c =
     let N : ℤ → Type 0 = λ z. NamesBefore turns c.args.place z → ⊥ in
     let first : NamesBefore turns c.args.place number → ⊥ = subst N (to_z-of_z w32 number fits) c.in-None.ensures in
     let M : TurnOf → Type 0 = λ t. NamesBefore turns c.args.place t.call → ⊥ in
-    let G : TurnOf → Type 0 = λ t. GivenFault (call_of c.args.call.now) t c.args.kind in
+    let G : TurnOf → Type 0 = λ t. GivenFault (grants_of c.args.grants.now) (call_of c.args.call.now) t c.args.kind in
     subst G (sym same) (n.4 (subst M same first))
 
 pub returns-in-Some-clause-tells : goal.returns-in-Some-clause-tells
@@ -60,4 +61,4 @@ returns-in-None-clause-tells c =
     let there = mapped_at turn_of c.args.turns.now c.args.place c.index-turns-place.result within c.index-turns-place.is in
     let N : ℤ → Type 0 = λ z. NamesBefore turns c.args.place z → ⊥ in
     let first : NamesBefore turns c.args.place number → ⊥ = subst N (to_z-of_z w32 number fits) c.in-None.ensures in
-    IfOk-weaker c.given_unfit.result _ _ (λ unfit told. (turn, there, of_first (call_of c.args.call.now) turns c.args.place turn c.args.kind first unfit told)) c.given_unfit.ensures.tells
+    IfOk-weaker c.given_unfit.result _ _ (λ unfit told. (turn, there, of_first (grants_of c.args.grants.now) (call_of c.args.call.now) turns c.args.place turn c.args.kind first unfit told)) c.given_unfit.ensures.tells

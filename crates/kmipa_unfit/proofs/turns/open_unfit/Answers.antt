@@ -5,6 +5,7 @@ use Rattle.kmipa_msgs.specs.Messages.{request_of, response_of}
 use Rattle.kmipa_record.specs.Entries.{items_of}
 use Rattle.kmipa_record.specs.Witnesses.{turn_of}
 use Rattle.kmipa_check.specs.Calls.{AreResponse, call_of}
+use Rattle.kmipa_check.specs.Grants.{grants_of}
 use Rattle.kmipa_check.specs.Steps.{IsAnswered, given}
 use Rattle.kmipa_check.specs.declared.fault.CheckFault.{CheckFault}
 use Rattle.kmipa_unfit.specs.Finding.{AnswerSays}
@@ -21,7 +22,7 @@ answered_unfit-requires c =
     let response = response_of c.in-Ok.response in
     let P : List ℕ → Type 0 = λ bs. AreResponse (request_of c.args.call.now.request) bs response in
     let answered : IsAnswered call turn response = given c.in-Some.answer.items c.requires.open (ap (option_map items_of) c.in-Some.is) (subst P c.deref.ensures.value c.in-Ok.ensures) in
-    answered_fault call turn c.args.kind response answered c.requires.given
+    answered_fault (grants_of c.args.grants.now) call turn c.args.kind response answered c.requires.given
 
 pub returns-in-Ok-clause-tells : goal.returns-in-Ok-clause-tells
 returns-in-Ok-clause-tells c =
@@ -30,7 +31,7 @@ returns-in-Ok-clause-tells c =
     let response = response_of c.in-Ok.response in
     let P : List ℕ → Type 0 = λ bs. AreResponse (request_of c.args.call.now.request) bs response in
     let answered : IsAnswered call turn response = given c.in-Some.answer.items c.requires.open (ap (option_map items_of) c.in-Some.is) (subst P c.deref.ensures.value c.in-Ok.ensures) in
-    IfOk-weaker c.answered_unfit.result _ _ (λ unfit told. of_response call turn c.args.kind response answered unfit told) c.answered_unfit.ensures.tells
+    IfOk-weaker c.answered_unfit.result _ _ (λ unfit told. of_response (grants_of c.args.grants.now) call turn c.args.kind response answered unfit told) c.answered_unfit.ensures.tells
 
 pub returns-in-Err-clause-tells : goal.returns-in-Err-clause-tells
 returns-in-Err-clause-tells c =
@@ -40,6 +41,6 @@ returns-in-Err-clause-tells c =
     let bytes : List ℕ = c.in-Some.answer.items in
     let some : turn.answer ≡ Some bytes = ap (option_map items_of) c.in-Some.is in
     let P : List ℕ → Type 0 = λ bs. AnswerSays request bs (Err c.in-Err.fault) in
-    let R : Result Unfit CheckFault → Type 0 = λ r. IfOk r (TellsGiven call turn c.args.kind) in
+    let R : Result Unfit CheckFault → Type 0 = λ r. IfOk r (TellsGiven (grants_of c.args.grants.now) call turn c.args.kind) in
     subst R (sym c.unread.ensures)
-    (unread_told c.requires.recorded.0 call turn c.args.kind bytes c.in-Err.fault c.requires.recorded.1 c.requires.open some (subst P c.deref.ensures.value c.in-Err.ensures) c.requires.given)
+    (unread_told (grants_of c.args.grants.now) c.requires.recorded.0 call turn c.args.kind bytes c.in-Err.fault c.requires.recorded.1 c.requires.open some (subst P c.deref.ensures.value c.in-Err.ensures) c.requires.given)

@@ -1,6 +1,6 @@
 use Rattle.std.proofs.Common.{◌≡◌, map, take}
 use Rattle.kmipa_msgs.specs.Messages.{ask_of}
-use Rattle.kmipa_unfit.specs.UnfitFills.{number_asked}
+use Rattle.kmipa_unfit.specs.UnfitParts.{number_asked}
 use Rattle.kmipa_unfit.proofs.turns.operations_of.Given as goal
 
 abbrev pub invariant-loop-ask : goal.invariant-loop-ask

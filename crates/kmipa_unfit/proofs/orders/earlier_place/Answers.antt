@@ -4,7 +4,7 @@ use mir.Syntax.{w32}
 use Rattle.std.proofs.lemmas.Int.{to_z-of_z}
 use Rattle.std.proofs.lemmas.Option.{slice_get-get_or}
 use Rattle.kmipa_unfit.proofs.BelowLemmas.{each_more}
-use Rattle.kmipa_unfit.proofs.orders.stands_ahead.Goals as goal
+use Rattle.kmipa_unfit.proofs.orders.earlier_place.Goals as goal
 
 pub numbers-preserved : goal.numbers-preserved
 numbers-preserved c =
