@@ -23,7 +23,7 @@ struct Changes {
     needed: Vec<usize>,
 }
 
-/// The chains of groups that change the object one after the other, each with all that are needed; none where there are too many.
+/// The chains of groups that change the object one after the other, each with all that are needed; none where there are too many, or the first of them where calls may be open.
 pub(crate) fn chains_of<L: Ledger>(
     alloc: Global,
     ledger: &mut L,
@@ -52,6 +52,9 @@ pub(crate) fn chains_of<L: Ledger>(
             &mut chains,
             place,
         )?;
+    }
+    if recording.is_open {
+        return whole_ones(alloc, &changes, &chains);
     }
     Ok(Vec::new(alloc))
 }
@@ -163,7 +166,7 @@ fn may_follow(
     group: usize,
 ) -> bool {
     let time = story.time(&recording.times, group);
-    let is_late = chain.iter().any(|other| *other == group
+    let is_late = chain.iter().any(|other| story.is_of_call(*other, group)
         || time.is_before(story.time(&recording.times, *other)));
     !is_late
         && !changes.needed.iter().any(|other| {

@@ -11,10 +11,22 @@ pub struct Wish {
     pub to: usize,
 }
 
+/// What an item of an open call does to an object.
+#[derive(Clone, Copy, PartialEq, Eq, PartialOrd, Ord)]
+pub struct Done {
+    pub call: usize,
+    pub item: usize,
+    pub object: usize,
+    /// The Time Stamp at which it does, where an answer shows it.
+    pub date: Option<i64>,
+}
+
 /// A choice among options, each of which is a list of wishes.
 #[derive(Drop)]
 pub struct Choice {
     pub options: Vec<Vec<Wish>>,
+    /// What open calls do by each option.
+    pub done: Vec<Vec<Done>>,
     /// Of each option whether it was seen to be impossible.
     pub is_out: Vec<bool>,
     /// It is open only where that choice has taken that option.
@@ -35,11 +47,13 @@ pub(crate) fn add_choices(
     courses: &[Course],
 ) -> Result<(), AllocError> {
     let mut options = Vec::new(alloc);
+    let mut done = Vec::new(alloc);
     for course in courses {
         options.push(wishes_of(alloc, times, course)?)?;
+        done.push(Vec::from_slice(alloc, &course.done)?)?;
     }
     let number = choices.len();
-    add_choice(alloc, choices, options, None)?;
+    add_choice(alloc, choices, options, done, None)?;
     for (option, course) in courses.iter().enumerate() {
         for reader in &course.readers {
             add_gaps(alloc, choices, times, course, reader, (number, option))?;
@@ -52,11 +66,13 @@ fn add_choice(
     alloc: Global,
     choices: &mut Vec<Choice>,
     options: Vec<Vec<Wish>>,
+    done: Vec<Vec<Done>>,
     under: Option<(usize, usize)>,
 ) -> Result<(), AllocError> {
     let is_out = vec![in alloc; false; options.len()]?;
     choices.push(Choice {
         options,
+        done,
         is_out,
         under,
         taken: None,
@@ -68,7 +84,7 @@ fn add_choice(
 
 /// The edges that a course has, whatever its readers choose, but for those that times have anyway.
 fn wishes_of(alloc: Global, times: &[Time], course: &Course) -> Result<Vec<Wish>, AllocError> {
-    let mut wishes = Vec::new(alloc);
+    let mut wishes = Vec::from_slice(alloc, &course.wishes)?;
     for (from, to) in course.chain.iter().zip(course.chain.iter().skip(1)) {
         make_wish(&mut wishes, times, *from, *to)?;
     }
@@ -138,7 +154,7 @@ fn add_gaps(
         }
     }
     if options.len() > 1 {
-        add_choice(alloc, choices, options, Some(under))?;
+        add_choice(alloc, choices, options, Vec::new(alloc), Some(under))?;
     }
     Ok(())
 }

@@ -1,6 +1,8 @@
 //! Which items of the calls are about which objects.
 
+use crate::hidden::{hidden_id, is_hidden};
 use crate::looks::Look;
+use crate::shown::Shown;
 use kmipa_attrs::{AttrSet, Filter, ObjectType};
 use kmipa_batch::is_refused_message;
 use kmipa_check::Call;
@@ -45,6 +47,8 @@ pub struct Known<'b> {
     pub gone: Option<usize>,
     /// The last Locate that was noted to list it, counted from 1; 0 where none was.
     pub listed: usize,
+    /// What answers show of it.
+    pub shown: Shown<'b>,
 }
 
 /// The objects that the calls and the declaration speak of, and the items about them.
@@ -57,6 +61,7 @@ pub struct Items<'b> {
 }
 
 /// Whom an item is about.
+#[derive(Clone, Copy)]
 enum Aim<'b> {
     /// The object of this identifier, or that of the ID Placeholder.
     Object(Option<&'b str>),
@@ -87,6 +92,11 @@ impl<'b> Items<'b> {
         Ok(items)
     }
 
+    /// The number of an object that calls speak of.
+    pub(crate) fn find(&self, id: &'b str) -> Option<usize> {
+        self.numbers.get(&id).copied()
+    }
+
     fn take_entries(&mut self, declaration: &'b Declaration) -> Result<(), AllocError> {
         for entry in &declaration.entries {
             let number = self.number(entry.id.as_str())?;
@@ -109,6 +119,7 @@ impl<'b> Items<'b> {
             born: None,
             gone: None,
             listed: 0,
+            shown: Shown::nothing(),
         })?;
         self.numbers.insert(id, number)?;
         Ok(number)
@@ -129,9 +140,70 @@ impl<'b> Items<'b> {
             .zip(response.items.iter())
             .enumerate()
         {
-            held = self.take_item(place, item, ask, answer, held)?;
+            held = if is_hidden(ask, answer) {
+                self.take_hidden(call, place, item, ask)?
+            } else {
+                self.take_item(place, item, ask, answer, held)?
+            };
+            self.note_shown(call, ask, answer, held);
         }
         Ok(())
+    }
+
+    /// Notes an item that was undone and whose payload is hidden, and answers what the ID Placeholder holds behind it, as far as a later item shows it.
+    fn take_hidden<'a>(
+        &mut self,
+        call: &'b Call<'a>,
+        place: usize,
+        item: usize,
+        ask: &'b Ask<'a>,
+    ) -> Result<Option<&'b str>, AllocError> {
+        let held = hidden_id(call, item);
+        if let (Aim::Newborn(kind, given), Some(id)) = (aim_of(&ask.asked), held) {
+            let object = self.touch(id, place, item, Part::Means)?;
+            self.note_birth(object, place, kind, given);
+        }
+        Ok(held)
+    }
+
+    /// Notes what an answer shows of an object.
+    fn note_shown<'a>(
+        &mut self,
+        call: &'b Call<'a>,
+        ask: &'b Ask<'a>,
+        answer: &'b Answer<'a>,
+        held: Option<&'b str>,
+    ) {
+        if answer.status == Status::Failed {
+            return;
+        }
+        let end = call.end.unwrap_or(usize::MAX);
+        match (&answer.payload, aim_of(&ask.asked)) {
+            (Some(Payload::Locate(located)), Aim::Fitting(filter)) => {
+                for id in &located.ids {
+                    if let Some(shown) = self.shown(id) {
+                        shown.take_listed(filter, end);
+                    }
+                }
+            }
+            (payload, Aim::Object(id)) => {
+                if let Some(id) = id.or(held) {
+                    if let Some(shown) = self.shown(id) {
+                        shown.take(payload, end);
+                    }
+                }
+            }
+            _ => {}
+        }
+    }
+
+    /// What is shown of an object that is known.
+    fn shown(&mut self, id: &'b str) -> Option<&mut Shown<'b>> {
+        let number = self.find(id)?;
+        match self.objects.get_mut(number) {
+            Some(known) => Some(&mut known.shown),
+            None => None,
+        }
     }
 
     /// Notes whom an item is about, and answers what the ID Placeholder holds behind it.
@@ -192,7 +264,8 @@ impl<'b> Items<'b> {
         }
     }
 
-    fn touch(
+    /// Notes an item that is about an object.
+    pub(crate) fn touch(
         &mut self,
         id: &'b str,
         call: usize,

@@ -5,19 +5,28 @@
 //! time: a call that ended before another began comes first, and so does one of a lesser Time Stamp. An order of the graph is proposed.
 #![tactic(auto)]
 
+mod answering;
 mod chains;
 mod choices;
 mod graph;
+mod hidden;
 mod items;
 mod lives;
 mod looks;
 mod mending;
+mod openings;
 mod proposing;
+mod shown;
 mod sorting;
 mod spreads;
 mod stories;
+mod switches;
 mod times;
 mod trying;
+mod turning;
 mod vectors;
 
+pub use answering::answer_of;
+pub use hidden::hidden_id;
 pub use proposing::propose;
+pub use turning::{Deed, Proposed, propose_turns};

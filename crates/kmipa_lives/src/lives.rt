@@ -4,6 +4,7 @@ ghost use Rattle.std.specs.Prelude.{◌≡◌};
 ghost use Rattle.kmipa_store.specs.Choices.{IsSound};
 
 use crate::chains::chains_of;
+use crate::choices::{Done, Wish};
 use crate::stories::{Recording, Story};
 use crate::times::Time;
 use crate::trying::{take_chain, try_reader};
@@ -22,6 +23,9 @@ pub struct Reader {
 pub struct Course {
     pub chain: Vec<usize>,
     pub readers: Vec<Reader>,
+    /// What it asks of open calls besides, and what these do.
+    pub wishes: Vec<Wish>,
+    pub done: Vec<Done>,
 }
 
 /// The slots into which a group fits by its time.
@@ -70,7 +74,7 @@ fn life_along<L: Ledger>(
             alloc, ledger, recording, story, chain, &spans, slot, &mut slots,
         )?;
     }
-    life_of_slots(alloc, story, chain, &spans, &slots)
+    life_of_slots(alloc, recording, story, chain, &spans, &slots)
 }
 
 /// The slots of each group by its time.
@@ -85,8 +89,8 @@ fn spans_of(
         times.push(story.time(&recording.times, *group))?;
     }
     let mut spans = Vec::with_capacity(alloc, story.groups.len())?;
-    for group in 0..story.groups.len() {
-        let is_change = chain.iter().any(|other| *other == group);
+    for (group, own) in story.groups.iter().enumerate() {
+        let is_change = own.is_open || chain.iter().any(|other| *other == group);
         spans.push(span_of(story.time(&recording.times, group), &times, is_change))?;
     }
     Ok(spans)
@@ -182,6 +186,7 @@ pub(crate) fn bit_of(slot: usize) -> u64 {
 /// The life, unless a group fits in nowhere.
 fn life_of_slots(
     alloc: Global,
+    recording: &Recording<'_, '_>,
     story: &Story<'_>,
     chain: &[usize],
     spans: &[Span],
@@ -203,9 +208,15 @@ fn life_of_slots(
             })?;
         }
     }
+    let mut wishes = Vec::new(alloc);
+    let mut done = Vec::new(alloc);
+    let switches = &recording.switches;
+    switches.wish(recording, story, chain, &mut wishes, &mut done)?;
     Ok(Some(Course {
         chain: calls_of(alloc, story, chain)?,
         readers,
+        wishes,
+        done,
     }))
 }
 

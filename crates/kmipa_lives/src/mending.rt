@@ -1,6 +1,6 @@
 //! Choices are taken one after the other, and taken back where they contradict.
 
-use crate::choices::{Choice, Wish};
+use crate::choices::{Choice, Done, Wish};
 use crate::graph::Graph;
 use std::alloc::{AllocError, Global};
 
@@ -50,6 +50,20 @@ impl Mending {
             }
         }
         Ok(false)
+    }
+
+    /// What open calls do by the lives that are taken.
+    pub(crate) fn done(&self) -> Result<Vec<Done>, AllocError> {
+        let mut all = Vec::new(self.alloc);
+        for choice in &self.choices {
+            if let (None, Some(option)) = (choice.under, choice.taken) {
+                for done in choice.done.get(option).unwrap_or(&Vec::new(self.alloc)) {
+                    all.push(*done)?;
+                }
+            }
+        }
+        all.sort_unstable();
+        Ok(all)
     }
 
     /// Leaves out the options that time and what is sure exclude, until no more are; or answers that a choice has none left.

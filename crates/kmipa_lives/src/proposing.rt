@@ -11,6 +11,7 @@ use crate::looks::leave_out;
 use crate::mending::Mending;
 use crate::sorting::graph_of;
 use crate::stories::{Recording, Story};
+use crate::switches::Switches;
 use crate::times::times_of;
 use kmipa_check::{Call, open_ledger, rules_of_declaration};
 use kmipa_record::Declaration;
@@ -41,8 +42,26 @@ pub fn propose<'x, 'a>(
         calls,
         times,
         rules: rules_of_declaration(alloc, declaration)?,
+        switches: Switches::none(alloc),
+        is_open: false,
+        least: i64::MIN,
     };
-    if !leave_out(alloc, &mut items, &recording)? {
+    match mending_of(alloc, declaration, &recording, &mut items)? {
+        Some(mending) => Ok(Some(calls_among(alloc, &mending.graph.order, recording.calls.len())?)),
+        None => Ok(None),
+    }
+}
+
+/// The graph of a recording, with the choices that the lives of its objects leave, all taken; none where they can't be.
+pub(crate) fn mending_of(
+    alloc: Global,
+    declaration: &Declaration,
+    recording: &Recording<'_, '_>,
+    items: &mut Items<'_>,
+) -> Result<Option<Mending>, AllocError>
+    requires { AreDeclared (declaration_of declaration.now) }
+{
+    if !leave_out(alloc, items, recording)? {
         return Ok(None);
     }
     items.touches.sort_unstable();
@@ -52,11 +71,11 @@ pub fn propose<'x, 'a>(
     match choices_of(
         alloc,
         &mut ledger,
-        &recording,
+        recording,
         &items.objects,
         &items.touches,
     )? {
-        Some(choices) => settled(alloc, &recording, choices),
+        Some(choices) => settled(alloc, recording, choices),
         None => Ok(None),
     }
 }
@@ -77,7 +96,7 @@ fn choices_of<L: Ledger>(
     'objects: for (object, known) in objects.iter().enumerate() {
         let to = touches.partition_point(|touch| touch.object <= object);
         let own = touches.get(from..to).unwrap_or(&[]);
-        let story = Story::of(alloc, recording, known.id, own)?;
+        let story = Story::of(alloc, recording, known, own)?;
         let courses = lives_of(alloc, ledger, recording, &story)?;
         tries = tries.saturating_add(own.len().saturating_mul(courses.len()));
         if courses.is_empty() || tries > MOST_TRIES {
@@ -89,26 +108,34 @@ fn choices_of<L: Ledger>(
     Ok(Some(choices))
 }
 
-/// The order that meets the choices, if one is found.
+/// The graph in which the choices are taken, if they can be.
 fn settled(
     alloc: Global,
     recording: &Recording<'_, '_>,
     choices: Vec<Choice>,
-) -> Result<Option<Vec<usize>>, AllocError>
-    ensures { IfOk result (λ order. IfSome order (λ o. All (λ place. place < length recording.now.calls.now) o.items)) }
-{
-    let Some(graph) = graph_of(alloc, &recording.times, EFFORT)? else {
+) -> Result<Option<Mending>, AllocError> {
+    let Some(mut graph) = graph_of(alloc, &recording.times, EFFORT)? else {
         return Ok(None);
     };
-    let mut mending = Mending::new(alloc, graph, choices);
-    if !mending.settle()? {
-        return Ok(None);
+    for edge in &recording.switches.edges {
+        if graph.add(edge.from, edge.to, 0)?.is_none() {
+            return Ok(None);
+        }
     }
-    Ok(Some(calls_among(alloc, &mending.graph.order, recording.calls.len())?))
+    let mut mending = Mending::new(alloc, graph, choices);
+    Ok(if mending.settle()? {
+        Some(mending)
+    } else {
+        None
+    })
 }
 
 /// The nodes that are calls, in their order.
-fn calls_among(alloc: Global, nodes: &[usize], count: usize) -> Result<Vec<usize>, AllocError>
+pub(crate) fn calls_among(
+    alloc: Global,
+    nodes: &[usize],
+    count: usize,
+) -> Result<Vec<usize>, AllocError>
     ensures { IfOk result (λ places. All (λ place. place < count) places.items) }
 {
     let mut places = Vec::new(alloc);

@@ -20,6 +20,8 @@ struct Sorted {
     moments: Vec<usize>,
     /// Of each call the number of its stamp, from 0.
     stamps: Vec<usize>,
+    /// Of each call whether it may have a greater stamp than this one, too.
+    frees: Vec<bool>,
 }
 
 /// The graph of the times of calls; none where they contradict each other. So many edges may be looked at in it.
@@ -51,6 +53,7 @@ impl Sorted {
             ends: ranks_of(alloc, &by_end)?,
             moments: moments_of(alloc, &befores)?,
             stamps: stamps_of(alloc, times, &by_time)?,
+            frees: frees_of(alloc, times)?,
             by_end,
             by_time,
             befores,
@@ -109,6 +112,10 @@ impl Sorted {
         Ok(ready)
     }
 
+    fn is_free(&self, call: usize) -> bool {
+        self.frees.get(call).copied().unwrap_or(false)
+    }
+
     fn is_last_of_stamp(&self, place: usize) -> bool {
         let own = self.by_time.get(place);
         let next = self.by_time.get(place.saturating_add(1));
@@ -139,7 +146,7 @@ impl Sorted {
             (ended == 0 || add_later(graph, self.moment(begun), call)?)
                 && (next >= self.moments.len() || add_later(graph, call, self.moment(next))?)
                 && (stamp == 0 || add_later(graph, self.stamp(stamp.saturating_sub(1)), call)?)
-                && add_later(graph, call, self.stamp(stamp))?,
+                && (self.is_free(call) || add_later(graph, call, self.stamp(stamp))?),
         )
     }
 
@@ -166,6 +173,15 @@ impl Sorted {
         }
         Ok(true)
     }
+}
+
+/// Of each call whether it may have more than one stamp.
+fn frees_of(alloc: Global, times: &[Time]) -> Result<Vec<bool>, AllocError> {
+    let mut frees = Vec::with_capacity(alloc, times.len())?;
+    for time in times {
+        frees.push(time.stamp < time.latest)?;
+    }
+    Ok(frees)
 }
 
 /// Adds an edge that never goes, to a node that comes later as it is; or answers that it doesn't.

@@ -89,7 +89,7 @@ impl Spread {
         self.end < time.begin
             || self.greatest < time.stamp
             || time.end < self.begin
-            || time.stamp < self.least
+            || time.latest < self.least
     }
 }
 
@@ -115,7 +115,7 @@ fn spread_of(times: &[Time], changes: &[Change], from: usize, to: usize) -> Spre
         spread.begin = spread.begin.min(time.begin);
         spread.end = spread.end.max(time.end);
         spread.least = spread.least.min(time.stamp);
-        spread.greatest = spread.greatest.max(time.stamp);
+        spread.greatest = spread.greatest.max(time.latest);
     }
     spread
 }

@@ -3,9 +3,13 @@
 ghost use Rattle.std.specs.Prelude.{◌≡◌, OnOk};
 ghost use Rattle.kmipa_store.specs.Choices.{IsSound};
 
+use crate::answering::answer_of;
+use crate::hidden::is_hidden;
 use crate::items::{Part, Touch};
 use crate::stories::{Recording, Story};
-use kmipa_msgs::{Answer, Ask, Asked, Rules};
+use crate::times::time_at;
+use kmipa_batch::is_unordered;
+use kmipa_msgs::{Answer, Ask, Asked, Rules, Status};
 use kmipa_object::Life;
 use kmipa_ops::{Fit, Placeholder, Refusal, is_readable, matches, take};
 use kmipa_store::Ledger;
@@ -102,6 +106,9 @@ pub(crate) fn take_chain<L: Ledger>(
     ensures marks { (L.state ledger.new).marks ≡ (L.state ledger.old).marks }
     ensures sound { OnOk result (IsSound (L.state ledger.new).now) }
 {
+    if recording.is_open {
+        ledger.set_moment(recording.least);
+    }
     'groups: for group in chain {
         if !take_group(alloc, ledger, recording, story, *group)? {
             return Ok(false);
@@ -122,12 +129,71 @@ fn take_group<L: Ledger>(
     ensures marks { (L.state ledger.new).marks ≡ (L.state ledger.old).marks }
     ensures sound { OnOk result (IsSound (L.state ledger.new).now) }
 {
-    'touches: for touch in story.items(group) {
-        if !take_touch(alloc, ledger, recording, story.id, *touch)? {
+    let touches = story.items(group);
+    if recording.is_open && is_without_order(recording, touches) {
+        return take_in_any_order(alloc, ledger, recording, story, touches);
+    }
+    'touches: for touch in touches {
+        if !take_touch(alloc, ledger, recording, story, *touch)? {
             return Ok(false);
         }
     }
     Ok(true)
+}
+
+/// Whether these items are of a batch without order.
+fn is_without_order(recording: &Recording<'_, '_>, touches: &[Touch]) -> bool {
+    match touches.first() {
+        Some(touch) => match recording.calls.get(touch.call) {
+            Some(call) => touches.len() > 1 && is_unordered(&call.request),
+            None => false,
+        },
+        None => false,
+    }
+}
+
+/// Takes the items of a batch without order: over and over, those that are possible.
+fn take_in_any_order<L: Ledger>(
+    alloc: Global,
+    ledger: &mut L,
+    recording: &Recording<'_, '_>,
+    story: &Story<'_>,
+    touches: &[Touch],
+) -> Result<bool, AllocError>
+    requires { IsSound (L.state ledger.old).now }
+    ensures marks { (L.state ledger.new).marks ≡ (L.state ledger.old).marks }
+    ensures sound { OnOk result (IsSound (L.state ledger.new).now) }
+{
+    let mut left = Vec::from_slice(alloc, touches)?;
+    'rounds: for _ in 0..touches.len() {
+        let count = left.len();
+        left = take_possible(alloc, ledger, recording, story, &left)?;
+        if left.is_empty() || left.len() == count {
+            break;
+        }
+    }
+    Ok(left.is_empty())
+}
+
+/// Takes those of these items that are possible, one after the other, and answers the others.
+fn take_possible<L: Ledger>(
+    alloc: Global,
+    ledger: &mut L,
+    recording: &Recording<'_, '_>,
+    story: &Story<'_>,
+    touches: &[Touch],
+) -> Result<Vec<Touch>, AllocError>
+    requires { IsSound (L.state ledger.old).now }
+    ensures marks { (L.state ledger.new).marks ≡ (L.state ledger.old).marks }
+    ensures sound { OnOk result (IsSound (L.state ledger.new).now) }
+{
+    let mut left = Vec::new(alloc);
+    'touches: for touch in touches {
+        if !take_touch(alloc, ledger, recording, story, *touch)? {
+            left.push(*touch)?;
+        }
+    }
+    Ok(left)
 }
 
 /// The same of one item.
@@ -135,31 +201,58 @@ fn take_touch<L: Ledger>(
     alloc: Global,
     ledger: &mut L,
     recording: &Recording<'_, '_>,
-    id: &str,
+    story: &Story<'_>,
     touch: Touch,
 ) -> Result<bool, AllocError>
     requires { IsSound (L.state ledger.old).now }
     ensures marks { (L.state ledger.new).marks ≡ (L.state ledger.old).marks }
     ensures sound { OnOk result (IsSound (L.state ledger.new).now) }
 {
+    let id = story.id;
     let Some(call) = recording.calls.get(touch.call) else {
-        return Ok(false);
-    };
-    let Some(response) = &call.response else {
         return Ok(false);
     };
     let Some(ask) = call.request.items.get(touch.item) else {
         return Ok(false);
+    };
+    let Some(response) = &call.response else {
+        return take_open(alloc, ledger, recording, story, touch.call, ask);
     };
     let Some(answer) = response.items.get(touch.item) else {
         return Ok(false);
     };
     ledger.set_moment(response.stamp);
     match touch.part {
+        Part::Means if is_hidden(ask, answer) => {
+            let full = answer_of(ask, id, Status::Undone);
+            take_item(alloc, ledger, &recording.rules, id, ask, &full)
+        }
         Part::Means => take_item(alloc, ledger, &recording.rules, id, ask, answer),
         Part::Lists => Ok(fit_of(ledger, id, ask) != Fit::Not),
         Part::LeavesOut => Ok(fit_of(ledger, id, ask) != Fit::Must),
     }
+}
+
+/// Takes the success of an item of an open call: at the date that it is shown to have left, or else as soon as may be.
+fn take_open<L: Ledger>(
+    alloc: Global,
+    ledger: &mut L,
+    recording: &Recording<'_, '_>,
+    story: &Story<'_>,
+    call: usize,
+    ask: &Ask<'_>,
+) -> Result<bool, AllocError>
+    requires { IsSound (L.state ledger.old).now }
+    ensures marks { (L.state ledger.new).marks ≡ (L.state ledger.old).marks }
+    ensures sound { OnOk result (IsSound (L.state ledger.new).now) }
+{
+    let stamp = match story.shown.date_left(&ask.asked) {
+        Some(date) => date,
+        None => ledger.moment().max(time_at(&recording.times, call).stamp),
+    };
+    ledger.set_moment(stamp);
+    let answer = answer_of(ask, story.id, Status::Success);
+    take_item(alloc, ledger, &recording.rules, story.id, ask, &answer)
 }
 
 fn take_item<L: Ledger>(

@@ -1,0 +1,6 @@
+use Rattle.std.proofs.Common.{◌≡◌}
+use Rattle.kmipa_store.specs.Choices.{IsSound}
+use Rattle.kmipa_lives.proofs.trying.take_possible.Given as goal
+
+abbrev pub invariant-touches : goal.invariant-touches
+invariant-touches g l = IsSound (g.L.Ledger.state l.ledger).now × ((g.L.Ledger.state l.ledger).marks ≡ (g.L.Ledger.state l.fn.ledger).marks)

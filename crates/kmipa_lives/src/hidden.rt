@@ -1,0 +1,60 @@
+//! Undone items whose answers leave their payloads out.
+
+use kmipa_check::Call;
+use kmipa_msgs::{Answer, Ask, Asked, Payload, is_wanted};
+
+/// Whether an answer leaves a payload out that a witness has to give.
+pub(crate) fn is_hidden(ask: &Ask<'_>, answer: &Answer<'_>) -> bool {
+    is_wanted(ask, answer)
+}
+
+/// The identifier that the ID Placeholder holds behind an item whose payload is hidden, where a later answer of its batch shows it.
+pub fn hidden_id<'b, 'a>(call: &'b Call<'a>, item: usize) -> Option<&'b str> {
+    let response = call.response.as_ref()?;
+    let behind = item.saturating_add(1);
+    let asks = call.request.items.get(behind..).unwrap_or(&[]);
+    let answers = response.items.get(behind..).unwrap_or(&[]);
+    for (ask, answer) in asks.iter().zip(answers.iter()) {
+        if is_setting(&ask.asked) {
+            return None;
+        }
+        if is_about_held(&ask.asked) {
+            if let Some(id) = shown_id(&answer.payload) {
+                return Some(id);
+            }
+        }
+    }
+    None
+}
+
+/// Whether an item sets the ID Placeholder.
+pub(crate) fn is_setting(asked: &Asked<'_>) -> bool {
+    match asked {
+        Asked::Create(_) => true,
+        Asked::Register(_) => true,
+        Asked::Locate(_) => true,
+        _ => false,
+    }
+}
+
+/// Whether an item is about the object that the ID Placeholder holds.
+pub(crate) fn is_about_held(asked: &Asked<'_>) -> bool {
+    match asked {
+        Asked::Get(get) => get.id.is_none(),
+        Asked::GetAttributes(get) => get.id.is_none(),
+        Asked::Activate(activate) => activate.id.is_none(),
+        Asked::Revoke(revoke) => revoke.id.is_none(),
+        Asked::Destroy(destroy) => destroy.id.is_none(),
+        _ => false,
+    }
+}
+
+/// The identifier that an answer about one object shows.
+fn shown_id<'b, 'a>(payload: &'b Option<Payload<'a>>) -> Option<&'b str> {
+    match payload {
+        Some(Payload::Get(got)) => got.id,
+        Some(Payload::GetAttributes(got)) => got.id,
+        Some(Payload::Change(changed)) => changed.id,
+        _ => None,
+    }
+}

@@ -1,0 +1,128 @@
+//! What answers show of an object.
+
+use kmipa_attrs::{AttrSet, Filter, Name, ObjectType};
+use kmipa_msgs::{Ask, Asked, Got, Payload};
+use kmipa_ops::{Effect, row_of};
+
+/// What answers show of an object.
+#[derive(Clone, Copy)]
+pub struct Shown<'b> {
+    /// The first end mark of a call that shows that it is there.
+    pub by: Option<usize>,
+    got: Option<Got<'b>>,
+    attributes: Option<&'b AttrSet>,
+    name: Option<&'b Name>,
+    initial: Option<i64>,
+    activation: Option<i64>,
+    revoked: Option<i64>,
+    destroy: Option<i64>,
+}
+
+impl<'b> Shown<'b> {
+    pub(crate) fn nothing() -> Shown<'b> {
+        Shown {
+            by: None,
+            got: None,
+            attributes: None,
+            name: None,
+            initial: None,
+            activation: None,
+            revoked: None,
+            destroy: None,
+        }
+    }
+
+    fn note_end(&mut self, end: usize) {
+        self.by = match self.by {
+            Some(by) => Some(by.min(end)),
+            None => Some(end),
+        };
+    }
+
+    /// A Locate lists it.
+    pub(crate) fn take_listed(&mut self, filter: &'b Filter, end: usize) {
+        self.note_end(end);
+        self.name = self.name.or(filter.names.as_slice().first());
+    }
+
+    /// An answer about it alone.
+    pub(crate) fn take<'a>(&mut self, payload: &'b Option<Payload<'a>>, end: usize) {
+        self.note_end(end);
+        match payload {
+            Some(Payload::Get(got)) => self.got = self.got.or(Some(*got)),
+            Some(Payload::GetAttributes(got)) => self.take_attributes(&got.attributes),
+            _ => {}
+        }
+    }
+
+    fn take_attributes(&mut self, shown: &'b AttrSet) {
+        self.name = self.name.or(shown.names.as_slice().first());
+        self.attributes = self.attributes.or(Some(shown));
+        self.initial = self.initial.or(shown.initial);
+        self.activation = self.activation.or(shown.activation);
+        self.revoked = self.revoked.or(shown.deactivation).or(shown.compromise);
+        self.destroy = self.destroy.or(shown.destroy);
+    }
+
+    /// The date that the success of an item about it has left, as far as one is shown.
+    pub(crate) fn date_left(&self, asked: &Asked<'_>) -> Option<i64> {
+        match asked {
+            Asked::Create(_) => self.initial,
+            Asked::Register(_) => self.initial,
+            Asked::Activate(_) => self.activation,
+            Asked::Revoke(_) => self.revoked,
+            Asked::Destroy(_) => self.destroy,
+            _ => None,
+        }
+    }
+
+    /// Whether an item can have brought it.
+    pub(crate) fn may_be_of(&self, ask: &Ask<'_>) -> bool {
+        match row_of(&ask.asked).effect {
+            Effect::Makes(new) => {
+                self.has_bytes(new.kind, new.material())
+                    && self.is_named(new.attributes)
+                    && self.is_alike(new.kind, new.attributes)
+            }
+            _ => false,
+        }
+    }
+
+    /// Whether no Get shows another type, or other bytes.
+    fn has_bytes(&self, kind: ObjectType, bytes: Option<&[u8]>) -> bool {
+        match (self.got, bytes) {
+            (None, _) => true,
+            (Some(got), None) => got.shape == kind,
+            (Some(got), Some(bytes)) => got.shape == kind && got.block.material == bytes,
+        }
+    }
+
+    /// Whether no name is shown but one of these.
+    fn is_named(&self, given: &AttrSet) -> bool {
+        match self.name {
+            Some(name) => given.names.as_slice().contains(name),
+            None => true,
+        }
+    }
+
+    /// Whether no other attribute is shown that never changes.
+    fn is_alike(&self, kind: ObjectType, given: &AttrSet) -> bool {
+        match self.attributes {
+            Some(shown) => {
+                is_same(shown.object_type, Some(kind.number()))
+                    && is_same(shown.algorithm, given.algorithm)
+                    && is_same(shown.length, given.length)
+                    && is_same(shown.mask, given.mask)
+            }
+            None => true,
+        }
+    }
+}
+
+/// Whether two values are the same, as far as both are told.
+fn is_same<T: PartialEq + Copy>(one: Option<T>, other: Option<T>) -> bool {
+    match (one, other) {
+        (Some(one), Some(other)) => one == other,
+        _ => true,
+    }
+}

@@ -1,0 +1,291 @@
+//! What open calls do, as nodes and edges of the graph: where two lives want otherwise, their edges contradict.
+
+use crate::choices::{Done, Wish};
+use crate::items::{Items, Touch};
+use crate::openings::made_by;
+use crate::stories::{Recording, Story};
+use crate::times::Time;
+use kmipa_check::Call;
+use kmipa_msgs::{Ask, BatchOption};
+use std::alloc::{AllocError, Global};
+
+/// Two nodes at a Time Stamp: what comes between them has it.
+#[derive(Clone, Copy)]
+struct Fence {
+    date: i64,
+    low: usize,
+    high: usize,
+}
+
+/// An object that an item may have brought. Where it did, its node comes before those of the others.
+#[derive(Clone, Copy, PartialEq, Eq, PartialOrd, Ord)]
+struct Claim {
+    call: usize,
+    item: usize,
+    object: usize,
+    node: usize,
+}
+
+/// Two nodes of an item of a batch: they come in this order where it was done, and in the other where it wasn't.
+#[derive(Clone, Copy)]
+struct Gate {
+    call: usize,
+    item: usize,
+    low: usize,
+    high: usize,
+}
+
+/// The nodes that stand for what open calls do.
+#[derive(Drop)]
+pub struct Switches {
+    fences: Vec<Fence>,
+    claims: Vec<Claim>,
+    gates: Vec<Gate>,
+    /// The edges that they have in any case.
+    pub edges: Vec<Wish>,
+}
+
+impl Switches {
+    /// None.
+    pub(crate) fn none(alloc: Global) -> Switches {
+        Switches {
+            fences: Vec::new(alloc),
+            claims: Vec::new(alloc),
+            gates: Vec::new(alloc),
+            edges: Vec::new(alloc),
+        }
+    }
+
+    /// Those of the open calls among these, whose nodes are added to the times of all.
+    pub(crate) fn of(
+        alloc: Global,
+        calls: &[Call<'_>],
+        items: &Items<'_>,
+        times: &mut Vec<Time>,
+    ) -> Result<Switches, AllocError> {
+        let mut switches = Switches::none(alloc);
+        let mut dates = Vec::new(alloc);
+        for touch in &items.touches {
+            if let Some(ask) = open_ask(calls, *touch) {
+                if made_by(ask).is_some() {
+                    switches.add_claim(times, *touch)?;
+                }
+                if let Some(date) = date_left(items, *touch, ask) {
+                    dates.push(date)?;
+                }
+            }
+        }
+        switches.claims.sort_unstable();
+        dates.sort_unstable();
+        dates.dedup();
+        for date in &dates {
+            switches.add_fence(times, *date)?;
+        }
+        for (place, call) in calls.iter().enumerate() {
+            if call.end.is_none() && call.request.items.len() > 1 {
+                switches.add_gates(times, place, call)?;
+            }
+        }
+        Ok(switches)
+    }
+
+    fn add_claim(&mut self, times: &mut Vec<Time>, touch: Touch) -> Result<(), AllocError> {
+        self.claims.push(Claim {
+            call: touch.call,
+            item: touch.item,
+            object: touch.object,
+            node: new_node(times, i64::MIN, i64::MAX)?,
+        })?;
+        Ok(())
+    }
+
+    fn add_fence(&mut self, times: &mut Vec<Time>, date: i64) -> Result<(), AllocError> {
+        let low = new_node(times, date, date)?;
+        let high = new_node(times, date, date)?;
+        self.fences.push(Fence { date, low, high })?;
+        Ok(())
+    }
+
+    /// Adds the gates of a batch. Under Undo it has one; under Stop each item asks for the one ahead of it.
+    fn add_gates(
+        &mut self,
+        times: &mut Vec<Time>,
+        place: usize,
+        call: &Call<'_>,
+    ) -> Result<(), AllocError> {
+        let count = match call.request.option {
+            BatchOption::Undo => 1,
+            _ => call.request.items.len(),
+        };
+        for item in 0..count {
+            let low = new_node(times, i64::MIN, i64::MAX)?;
+            let high = new_node(times, i64::MIN, i64::MAX)?;
+            if call.request.option == BatchOption::Stop && item > 0 {
+                self.add_before(low, high)?;
+            }
+            self.gates.push(Gate {
+                call: place,
+                item,
+                low,
+                high,
+            })?;
+        }
+        Ok(())
+    }
+
+    /// The item of these nodes asks for the one before, whose gate was added last.
+    fn add_before(&mut self, low: usize, high: usize) -> Result<(), AllocError> {
+        if let Some(before) = self.gates.last().copied() {
+            self.edges.push(Wish {
+                from: before.low,
+                to: low,
+            })?;
+            self.edges.push(Wish {
+                from: high,
+                to: before.high,
+            })?;
+        }
+        Ok(())
+    }
+
+    fn gate(&self, call: usize, item: usize, option: BatchOption) -> Option<Gate> {
+        let own = match option {
+            BatchOption::Undo => 0,
+            _ => item,
+        };
+        let place = self.gates.partition_point(|gate| gate.call < call
+            || gate.call == call && gate.item < own);
+        match self.gates.get(place) {
+            Some(gate) if gate.call == call && gate.item == own => Some(*gate),
+            _ => None,
+        }
+    }
+
+    fn fence(&self, date: i64) -> Option<Fence> {
+        let place = self.fences.partition_point(|fence| fence.date < date);
+        self.fences.get(place).copied()
+    }
+
+    /// Wishes what a course asks of the open calls about its object, and notes what they do.
+    pub(crate) fn wish(
+        &self,
+        recording: &Recording<'_, '_>,
+        story: &Story<'_>,
+        chain: &[usize],
+        wishes: &mut Vec<Wish>,
+        done: &mut Vec<Done>,
+    ) -> Result<(), AllocError> {
+        for (place, touch) in story.touches.iter().enumerate() {
+            let Some(call) = recording.calls.get(touch.call) else {
+                continue;
+            };
+            let Some(ask) = open_ask(recording.calls, *touch) else {
+                continue;
+            };
+            let gate = self.gate(touch.call, touch.item, call.request.option);
+            if story.is_done(chain, place) {
+                let date = story.shown.date_left(&ask.asked);
+                done.push(Done {
+                    call: touch.call,
+                    item: touch.item,
+                    object: touch.object,
+                    date,
+                })?;
+                self.wish_date(*touch, date, wishes)?;
+                self.wish_claim(*touch, wishes)?;
+                wish_gate(gate, true, wishes)?;
+            } else if story.is_settled(chain, *touch, ask) {
+                wish_gate(gate, false, wishes)?;
+            }
+        }
+        Ok(())
+    }
+
+    /// Wishes a call between the nodes of a date.
+    fn wish_date(
+        &self,
+        touch: Touch,
+        date: Option<i64>,
+        wishes: &mut Vec<Wish>,
+    ) -> Result<(), AllocError> {
+        let Some(date) = date else {
+            return Ok(());
+        };
+        if let Some(fence) = self.fence(date) {
+            wishes.push(Wish {
+                from: fence.low,
+                to: touch.call,
+            })?;
+            wishes.push(Wish {
+                from: touch.call,
+                to: fence.high,
+            })?;
+        }
+        Ok(())
+    }
+
+    /// Wishes the node of an object before those of all others that the same item may have brought.
+    fn wish_claim(&self, touch: Touch, wishes: &mut Vec<Wish>) -> Result<(), AllocError> {
+        let key = (touch.call, touch.item);
+        let from = self.claims.partition_point(|c| (c.call, c.item) < key);
+        let to = self.claims.partition_point(|c| (c.call, c.item) <= key);
+        let rivals = self.claims.get(from..to).unwrap_or(&[]);
+        if let Some(own) = rivals.iter().find(|claim| claim.object == touch.object) {
+            for rival in rivals {
+                if rival.object != touch.object {
+                    wishes.push(Wish {
+                        from: own.node,
+                        to: rival.node,
+                    })?;
+                }
+            }
+        }
+        Ok(())
+    }
+}
+
+fn wish_gate(gate: Option<Gate>, is_done: bool, wishes: &mut Vec<Wish>) -> Result<(), AllocError> {
+    if let Some(gate) = gate {
+        wishes.push(if is_done {
+            Wish {
+                from: gate.low,
+                to: gate.high,
+            }
+        } else {
+            Wish {
+                from: gate.high,
+                to: gate.low,
+            }
+        })?;
+    }
+    Ok(())
+}
+
+/// The item of an open call.
+pub(crate) fn open_ask<'b, 'a>(calls: &'b [Call<'a>], touch: Touch) -> Option<&'b Ask<'a>> {
+    let call = calls.get(touch.call)?;
+    match call.end {
+        Some(_) => None,
+        None => call.request.items.get(touch.item),
+    }
+}
+
+fn date_left(items: &Items<'_>, touch: Touch, ask: &Ask<'_>) -> Option<i64> {
+    match items.objects.get(touch.object) {
+        Some(known) => known.shown.date_left(&ask.asked),
+        None => None,
+    }
+}
+
+/// A node that is no call, at these Time Stamps; and answers its number.
+fn new_node(times: &mut Vec<Time>, stamp: i64, latest: i64) -> Result<usize, AllocError> {
+    let node = times.len();
+    times.push(Time {
+        begin: 0,
+        end: usize::MAX,
+        stamp,
+        latest,
+        is_undone: false,
+    })?;
+    Ok(node)
+}
