@@ -8,12 +8,12 @@ use Rattle.std.proofs.lemmas.List.Sorted.{IsPermutation-sym, Contains-permutatio
 use Rattle.kmipa_store.specs.Ledger.{Meaning}
 use Rattle.kmipa_record.specs.Marks.{MarkOf, AreRecorded, IsCallNumber}
 use Rattle.kmipa_record.specs.Declarations.{DeclarationOf}
-use Rattle.kmipa_record.specs.Witnesses.{TurnOf, witness_of, IsWitness}
+use Rattle.kmipa_record.specs.Witnesses.{TurnOf, bare_turn, witness_of, IsWitness}
 use Rattle.kmipa_record.specs.declared.witness.Witness.{Witness}
 use Rattle.kmipa_msgs.specs.Messages.{RulesOf}
 use Rattle.kmipa_check.specs.Calls.{CallOf, AreCalls, IsRecorded}
 use Rattle.kmipa_check.specs.Steps.{StepOf, IsStep}
-use Rattle.kmipa_check.specs.Plain.{bare_turn}
+use Rattle.kmipa_check.specs.Grants.{GrantsNothing, grants_declared}
 use Rattle.kmipa_check.specs.Runs.{IsAccepted, IsExplained, TakeEachOnce, rules_declared}
 use Rattle.kmipa_check.specs.Laws.{AreMade, OneListOfCalls}
 use Rattle.kmipa_check.specs.Deciding.{Decided}
@@ -26,14 +26,13 @@ use Rattle.kmipa_search.specs.LawsOfCheck.{LawsOfCheck}
 use Rattle.kmipa_search.specs.Candidates.{AreNotPlain}
 use Rattle.kmipa_search.specs.Plain.{ArePlain, AreApart, IsForced}
 use Rattle.kmipa_search.specs.Next.{weight}
-use Rattle.kmipa_search.specs.ByObject.{AreOrderly, Refuted}
 use Rattle.kmipa_search.specs.Progress.{ordered, AllReadable, HaveRun, CanBeTaken, Opens, ComesTo}
 use Rattle.kmipa_search.specs.Taken.{no_step, step_at}
 use Rattle.kmipa_search.specs.Confirming.{Confirms, IsTried, turns_at}
 use Rattle.kmipa_search.specs.Laws.{IsEnough, EnoughDecides, ForcedIsLight}
 use Rattle.kmipa_search.specs.Found.{HasDecided, stopped, enough, one_by_one, Finds, Searches}
 use Rattle.kmipa_search.specs.declared.found.Found.{Found}
-use Rattle.kmipa_search.specs.declared.found.Found.TheVariants.{Yes, GaveUp}
+use Rattle.kmipa_search.specs.declared.found.Found.TheVariants.{Yes, GaveUp, Refuted}
 use Rattle.kmipa_check.proofs.PlaceLemmas.{contains_at, at_contains, mapped_from, get_at}
 use Rattle.kmipa_search.proofs.WritableLemmas.{bare_written, recorded_number}
 use Rattle.kmipa_search.proofs.PermutationLemmas.{IsOnce, once_pairs}
@@ -45,7 +44,7 @@ use Rattle.kmipa_search.proofs.PlainLemmas.{same_steps, plain_at, plain_from, pl
 -- calls that aren't plain: nothing is decided
 pub undecided : (marks : List MarkOf) (declared : DeclarationOf) (calls : List CallOf) (budget count : ℕ) → LawsOfCheck → AreRecorded marks → AreCalls marks calls → AreNotPlain calls
     → count ≤ budget → Finds marks declared budget (GaveUp count)
-undecided marks declared calls budget count laws r are not few = (few, (calls, are, λ decided explained. by decided))
+undecided marks declared calls budget count laws r are not few = (few, (calls, are, λ nothing decided explained. by decided))
   where
     by : HasDecided calls budget count → ⊥
     by decided = elim decided [ stopped s plain less ↦ not s plain | enough s plain less ↦ not s plain | one_by_one f few ↦ not f.steps f.plain ]
@@ -76,9 +75,9 @@ module _ (marks : List MarkOf) (declared : DeclarationOf) (calls : List CallOf) 
     refused = laws.refused;
   }
 
-  -- where nothing runs, nothing is explained
-  unexplained : (HaveRun declared steps → ⊥) → IsExplained marks declared → ⊥
-  unexplained none x =
+  -- where nothing runs and nothing is granted, nothing is explained
+  unexplained : GrantsNothing (grants_declared declared) → (HaveRun declared steps → ⊥) → IsExplained marks declared → ⊥
+  unexplained nothing none x =
       let P : List CallOf → Type 0 = λ cs. ArePlain cs steps in
       let Q : List CallOf → Type 0 = λ cs. AllPairs (λ (a b : ℤ). a ≢ b) (map (λ (c : CallOf). c.number) cs) in
       let e = laws.one_list marks calls x.calls r are x.are in
@@ -86,11 +85,11 @@ module _ (marks : List MarkOf) (declared : DeclarationOf) (calls : List CallOf) 
         start = x.start;
         described = x.described;
         order = x.steps;
-        run = run_takes_all x.calls steps (subst P e plain) (subst Q e numbers_once) laws.one_step (rules_declared declared) x.start x.steps x.run steps_once;
+        run = run_takes_all x.calls steps (subst P e plain) (subst Q e numbers_once) laws.one_step (grants_declared declared) nothing (rules_declared declared) x.start x.steps x.run steps_once;
       })
 
   pub gave_up : (budget count : ℕ) → ComesTo declared steps budget None count → Finds marks declared budget (GaveUp count)
-  gave_up budget count l = (l.0, (calls, are, λ decided explained. unexplained (l.1 (by decided)) explained))
+  gave_up budget count l = (l.0, (calls, are, λ nothing decided explained. unexplained nothing (l.1 (by decided)) explained))
     where
       by : HasDecided calls budget count → (count < budget) ⊎ (weight steps ≤ budget)
       by (stopped own p less) = inl less
@@ -98,18 +97,6 @@ module _ (marks : List MarkOf) (declared : DeclarationOf) (calls : List CallOf) 
       by (one_by_one f few) =
           let P : List StepOf → Type 0 = λ ss. weight ss ≤ budget in
           inr (subst P (same_steps calls f.steps steps f.plain plain) (omega (arith, forced_is_light_lem calls f, few)))
-
-  -- calls in their order: each once, and none before itself
-  orderly : AreOrderly steps
-  orderly = record {
-    once = plain_once calls steps plain (laws.timed marks calls r are);
-    begun = plain_begun calls steps plain (laws.timed marks calls r are);
-    timed = plain_timed calls steps plain (laws.timed marks calls r are);
-  }
-
-  -- what one object refutes
-  pub gave_up_refuted : (budget count : ℕ) → count ≤ budget → AllReadable steps → Refuted declared steps → Finds marks declared budget (GaveUp count)
-  gave_up_refuted budget count few readable refuted = (few, (calls, are, λ decided explained. unexplained (refuted orderly readable) explained))
 
   -- ---- what takes these calls can be written
 
@@ -161,19 +148,19 @@ module _ (marks : List MarkOf) (declared : DeclarationOf) (calls : List CallOf) 
     in_steps : (s : StepOf) → Contains order s → Contains steps s
     in_steps s has = Contains-permutation order steps s (IsPermutation-sym steps order can.once) has
 
-    of_call : (s : StepOf) → Contains steps s → (c : CallOf) × Contains calls c × IsStep c (bare_turn s.number) s
+    of_call : (s : StepOf) → Contains steps s → (c : CallOf) × Contains calls c × IsStep (grants_declared declared) c (bare_turn s.number) s
     of_call s has =
         let p = at_contains steps s has in
         let c = plain_at calls steps p.0 s plain p.1 in
-        let P : StepOf → Type 0 = λ x. IsStep c.0 (bare_turn x.number) x in
-        (c.0, contains_at calls p.0 c.0 c.1, subst P (sym c.2.is) (laws.taken_bare c.0 c.2.response c.2.plain))
+        let P : StepOf → Type 0 = λ x. IsStep (grants_declared declared) c.0 (bare_turn x.number) x in
+        (c.0, contains_at calls p.0 c.0 c.1, subst P (sym c.2.is) (laws.taken_bare (grants_declared declared) c.0 c.2.response c.2.plain))
 
-    made : (ps : List ℕ) → ((s : StepOf) → Contains (ordered steps ps) s → Contains steps s) → AreMade calls (turns_at steps ps) (ordered steps ps)
+    made : (ps : List ℕ) → ((s : StepOf) → Contains (ordered steps ps) s → Contains steps s) → AreMade (grants_declared declared) calls (turns_at steps ps) (ordered steps ps)
     made [] inside = tt
     made (p ∷ ps) inside =
         (of_call (step_at steps p) (inside (step_at steps p) (zero, omega arith, refl)), made ps (λ s has. inside s (suc has.0, omega (arith, has.1), has.2)))
 
-    taken_once : TakeEachOnce calls order
+    taken_once : TakeEachOnce (grants_declared declared) calls order
     taken_once = record {
       of_calls = λ s has. let c = of_call s (in_steps s has) in (c.0, bare_turn s.number, c.1, c.2);
       once = λ i j d less within same. apart i j d less within same;
@@ -213,6 +200,7 @@ module _ (marks : List MarkOf) (declared : DeclarationOf) (calls : List CallOf) 
             let W : Witness → Type 0 = λ x. (bytes : List ℕ) × IsWitness bytes (witness_of x) in
             (subst P (sym c.0) a, subst W (sym c.0) (writable places in_steps witness is), omega (arith, c.1, few), omega (arith, c.1, subst Q (sym c.0) turns_long))
         by a (Ok (GaveUp n)) c = absurd c
+        by a (Ok (Refuted n object)) c = absurd c
         by a (Err fault.Memory) c = tt
         by a (Err (fault.Outside number side o)) c = absurd c
         by a (Err (fault.Witness f)) c = absurd c
@@ -245,6 +233,7 @@ tried marks declared calls budget count witness (Ok (Yes w n)) laws r are not fe
     let W : Witness → Type 0 = λ x. (bytes : List ℕ) × IsWitness bytes (witness_of x) in
     (subst P (sym h.0) h.2, subst W (sym h.0) h.3, omega (arith, h.1, few), omega (arith, h.1, subst Q (sym h.0) paid))
 tried marks declared calls budget count witness (Ok (GaveUp n)) laws r are not few paid h = undecided marks declared calls budget n laws r are not (omega (arith, h, few))
+tried marks declared calls budget count witness (Ok (Refuted n object)) laws r are not few paid h = absurd h
 tried marks declared calls budget count witness (Err fault.Memory) laws r are not few paid h = tt
 tried marks declared calls budget count witness (Err (fault.Outside number side o)) laws r are not few paid h = absurd h
 tried marks declared calls budget count witness (Err (fault.Witness f)) laws r are not few paid h = absurd h
@@ -252,9 +241,10 @@ tried marks declared calls budget count witness (Err (fault.Witness f)) laws r a
 -- ---- the law
 
 pub enough_decides_lem : OneListOfCalls → EnoughDecides
-enough_decides_lem one_list marks declared calls budget (Yes witness count) r are few f =
+enough_decides_lem one_list marks declared calls budget (Yes witness count) nothing r are few f =
     let a = f.0 in
     record { calls = a.calls; are = a.are; start = a.start; described = a.described; steps = a.steps; run = a.run }
-enough_decides_lem one_list marks declared calls budget (GaveUp count) r are few f = λ explained.
+enough_decides_lem one_list marks declared calls budget (GaveUp count) nothing r are few f = λ explained.
     let P : List CallOf → Type 0 = λ cs. IsEnough cs budget in
-    f.1.2 (elim (subst P (one_list marks calls f.1.0 r are f.1.1) few) [ inl p ↦ enough p.0 p.1 p.2 | inr p ↦ one_by_one p.0 p.1 ]) explained
+    f.1.2 nothing (elim (subst P (one_list marks calls f.1.0 r are f.1.1) few) [ inl p ↦ enough p.0 p.1 p.2 | inr p ↦ one_by_one p.0 p.1 ]) explained
+enough_decides_lem one_list marks declared calls budget (Refuted count object) nothing r are few f = f.2

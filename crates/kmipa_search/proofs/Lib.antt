@@ -34,3 +34,4 @@ pub mod RememberLemmas
 pub mod TakenLemmas
 pub mod NotedLemmas
 pub mod PartLemmas
+pub mod RefutedLemmas

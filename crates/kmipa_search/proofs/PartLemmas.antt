@@ -33,13 +33,13 @@ use Rattle.kmipa_search.proofs.PlaceLemmas.{one_cases, one_place}
 
 -- ---- lists of which some are there
 
-there_at : (each : List (Option StepOf)) (i : ℕ) (p : StepOf) → slice_get (those_there each) i ≡ Some p → (k : ℕ) × (slice_get each k ≡ Some (Some p))
+pub there_at : (each : List (Option StepOf)) (i : ℕ) (p : StepOf) → slice_get (those_there each) i ≡ Some p → (k : ℕ) × (slice_get each k ≡ Some (Some p))
 there_at [] i p at = let bad : ⊥ = cc in absurd bad
 there_at (None ∷ each) i p at = let r = there_at each i p at in (suc r.0, r.1)
 there_at (Some x ∷ each) zero p at = (0, ap Some at)
 there_at (Some x ∷ each) (suc i) p at = let r = there_at each i p at in (suc r.0, r.1)
 
-at_there : (each : List (Option StepOf)) (k : ℕ) (p : StepOf) → slice_get each k ≡ Some (Some p) → (i : ℕ) × (slice_get (those_there each) i ≡ Some p)
+pub at_there : (each : List (Option StepOf)) (k : ℕ) (p : StepOf) → slice_get each k ≡ Some (Some p) → (i : ℕ) × (slice_get (those_there each) i ≡ Some p)
 at_there [] k p at = let bad : ⊥ = cc in absurd bad
 at_there (None ∷ each) zero p at = let bad : ⊥ = cc in absurd bad
 at_there (None ∷ each) (suc k) p at = at_there each k p at
@@ -194,7 +194,7 @@ described_each id (e ∷ entries) (o ∷ V) z =
     let P : Bool → Bool → Type 0 = λ b c. AllZip IsDescribed (cond b (e ∷ filter (λ (x : EntryOf). bytes_eq id x.id) entries) (filter (λ (x : EntryOf). bytes_eq id x.id) entries)) (cond c (o ∷ cut id V) (cut id V)) in
     subst (P (bytes_eq id e.id)) (sym same) ((elim (bytes_eq id e.id) as (λ b. P b b) [ true ↦ (z.0, rest) | false ↦ rest ]))
 
-described_cut : (id : List ℕ) (declared : DeclarationOf) (V : List Thing) → Describes declared V → Describes (declared_on id declared) (cut id V)
+pub described_cut : (id : List ℕ) (declared : DeclarationOf) (V : List Thing) → Describes declared V → Describes (declared_on id declared) (cut id V)
 described_cut id declared V d = record {
   inventory = record {
     distinct = λ i j x y s t e. single id V d.inventory.distinct i j x y s t;
@@ -269,34 +269,6 @@ without_order declared calls parts budget steps are c less h =
     let P : List StepOf → Type 0 = λ xs. HaveRun declared xs in
     c.1 (inl less) (subst P (sym are) h)
 
--- ---- parts of the calls so far
-
--- two lists go on together
-zip_more : {A B : Type 0} (R : A → B → Type 0) (xs : List A) (ys : List B) (x : A) (y : B) → AllZip R xs ys → R x y → AllZip R (xs ++ x ∷ []) (ys ++ y ∷ [])
-zip_more R [] [] x y z r = (r, tt)
-zip_more R [] (b ∷ ys) x y z r = absurd z
-zip_more R (a ∷ xs) [] x y z r = absurd z
-zip_more R (a ∷ xs) (b ∷ ys) x y z r = (z.0, zip_more R xs ys x y z.1 r)
-
-pub no_parts : (id : List ℕ) → AreParts id [] []
-no_parts id = record { each = []; of_calls = tt; are = refl }
-
--- a call more, and its part
-pub part_more : (id : List ℕ) (calls parts : List StepOf) (call part : StepOf) → AreParts id calls parts → IsPartOf id call part → AreParts id (calls ++ call ∷ []) (parts ++ part ∷ [])
-part_more id calls parts call part a is = record {
-  each = a.each ++ Some part ∷ [];
-  of_calls = zip_more (IsPartOrNone id) calls a.each call (Some part) a.of_calls is;
-  are = ap (λ (ps : List StepOf). ps ++ part ∷ []) a.are ∙ sym (filter_map-append (λ (p : Option StepOf). p) a.each (Some part ∷ []));
-}
-
--- a call more that has none
-pub none_more : (id : List ℕ) (calls parts : List StepOf) (call : StepOf) → AreParts id calls parts → IsElsewhere id call → AreParts id (calls ++ call ∷ []) parts
-none_more id calls parts call a is = record {
-  each = a.each ++ None ∷ [];
-  of_calls = zip_more (IsPartOrNone id) calls a.each call None a.of_calls is;
-  are = a.are ∙ sym (append-nil (filter_map (λ (p : Option StepOf). p) a.each)) ∙ sym (filter_map-append (λ (p : Option StepOf). p) a.each (None ∷ []));
-}
-
 -- ---- entries so far
 
 module _ (id : List ℕ) (before own : List EntryOf) (entry : EntryOf) (so_far : own ≡ filter (λ (e : EntryOf). bytes_eq id e.id) before) where
@@ -316,7 +288,7 @@ module _ (id : List ℕ) (before own : List EntryOf) (entry : EntryOf) (so_far :
       let P : Bool → Type 0 = λ b. own ≡ filter of_id before ++ cond b (entry ∷ []) [] in
       subst P (sym is) (so_far ∙ sym (append-nil (filter of_id before))) ∙ sym (filter-append of_id before (entry ∷ []))
 
-mapped_more : {A B : Type 0} (f : A → B) (xs : List A) (i : ℕ) (x : A) → i < length xs → x ≡ get_or xs i x → map f (take (i + 1) xs) ≡ map f (take i xs) ++ f x ∷ []
+pub mapped_more : {A B : Type 0} (f : A → B) (xs : List A) (i : ℕ) (x : A) → i < length xs → x ≡ get_or xs i x → map f (take (i + 1) xs) ≡ map f (take i xs) ++ f x ∷ []
 mapped_more f xs i x less is = ap (λ ys. map f ys) (take_more xs i x less ∙ ap (λ y. take i xs ++ y ∷ []) (sym is)) ∙ map-append f (take i xs) (x ∷ [])
 
 module _ (id : List ℕ) (xs : List Entry) (i : ℕ) (x : Entry) (less : i < length xs) (is : x ≡ get_or xs i x) (own : List Entry)
@@ -357,16 +329,3 @@ module _ {A : Type 0} (step : A → StepOf) (xs : List A) (i : ℕ) (x : A) (les
   same_so_far other own more y are before same =
       ap (λ ys. map other ys) are ∙ map-append other own (y ∷ []) ∙ ap (λ (ss : List StepOf). ss ++ other y ∷ []) before
       ∙ ap (λ (s : StepOf). map step (take i xs) ++ s ∷ []) same ∙ sym step_more
-
-  -- a call more that has none
-  pub passed_so_far : (id : List ℕ) (parts : List StepOf) → AreParts id (map step (take i xs)) parts → IsElsewhere id (step x) → AreParts id (map step (take (i + 1) xs)) parts
-  passed_so_far id parts a e = let P : List StepOf → Type 0 = λ ss. AreParts id ss parts in subst P (sym step_more) (none_more id (map step (take i xs)) parts (step x) a e)
-
-  -- a call more, and its part
-  pub part_so_far : (id : List ℕ) (own more : List CallPart) (part : CallPart) → more ≡ own ++ part ∷ [] → AreParts id (map step (take i xs)) (map part_step own) → IsPartOf id (step x) (part_step part)
-      → AreParts id (map step (take (i + 1) xs)) (map part_step more)
-  part_so_far id own more part are a p =
-      let P : List StepOf → Type 0 = λ ss. AreParts id ss (map part_step more) in
-      let Q : List StepOf → Type 0 = λ ps. AreParts id (map step (take i xs) ++ step x ∷ []) ps in
-      subst P (sym step_more) (subst Q (sym (ap (λ (ps : List CallPart). map part_step ps) are ∙ map-append part_step own (part ∷ [])))
-      (part_more id (map step (take i xs)) (map part_step own) (step x) (part_step part) a p))

@@ -1,5 +1,5 @@
 -- Plain calls and their steps.
-use Rattle.std.proofs.Common.{◌≡◌, ◌≢◌, ◌<◌, inl, inr, ℕ, zero, suc, ℤ, List, [], ◌∷◌, ◌++◌, map, length, get_or, Option, Some, slice_get, Contains, All, refl, sym, ap, ◌∙◌, subst, arith}
+use Rattle.std.proofs.Common.{◌≡◌, ◌≢◌, ◌<◌, inl, inr, ℕ, zero, suc, ℤ, pos, List, [], ◌∷◌, ◌++◌, map, length, get_or, Option, Some, slice_get, Contains, All, refl, sym, ap, ◌∙◌, subst, arith}
 use Rattle.std.specs.Prelude.{AllPairs}
 use Rattle.std.proofs.lemmas.List.{length-map, get_or-map}
 use Rattle.std.proofs.lemmas.List.Sorted.{IsPermutation-sym}
@@ -8,12 +8,14 @@ use Rattle.std.proofs.lemmas.Option.{get_or_from_slice_get, slice_get-get_or, sl
 use Rattle.std.proofs.lemmas.List.Elements.{All-contains}
 use Rattle.kmipa_object.specs.Inventory.{Thing}
 use Rattle.kmipa_record.specs.Marks.{MarkOf}
+use Rattle.kmipa_record.specs.Witnesses.{bare_turn}
 use Rattle.kmipa_msgs.specs.Messages.{RulesOf}
 use Rattle.kmipa_check.specs.Calls.{CallOf, AreTimed, IsRecorded}
 use Rattle.kmipa_check.specs.Steps.{StepOf, step_with}
 use Rattle.kmipa_batch.specs.Readable.{IsReadableCall}
 use Rattle.kmipa_check.specs.Runs.{EndsAhead, IsRun}
-use Rattle.kmipa_check.specs.Plain.{PlainCallHasOneStep, bare_turn}
+use Rattle.kmipa_check.specs.Grants.{GrantsOf, GrantsNothing}
+use Rattle.kmipa_check.specs.Plain.{PlainCallHasOneStep}
 use Rattle.kmipa_search.specs.LawsOfCheck.{LawsOfCheck}
 use Rattle.kmipa_search.specs.Plain.{IsPlainStep, ArePlain}
 use Rattle.kmipa_search.specs.Progress as progress
@@ -24,6 +26,10 @@ use Rattle.kmipa_check.proofs.PlaceLemmas.{contains_at, at_contains}
 use Rattle.kmipa_search.proofs.PermutationLemmas.{IsOnce, at_most, permuted}
 use Rattle.kmipa_search.proofs.PlaceLemmas.{once_at}
 use Rattle.kmipa_search.proofs.LinksLemmas.{which}
+
+-- nothing is granted
+abbrev pub no_grants : GrantsOf
+no_grants = record { tolerance = pos 0 }
 
 -- a call has one step
 pub one_plain_step : (c : CallOf) (s t : StepOf) → IsPlainStep c s → IsPlainStep c t → s ≡ t
@@ -152,7 +158,8 @@ module _ (calls : List CallOf) (steps : List StepOf) (plain : ArePlain calls ste
       let c = plain_at calls steps p.0 s plain p.1 in
       let P : StepOf → Type 0 = λ x. IsReadableCall x.request x.response in
       subst P (sym c.2.is)
-      (laws.readable marks c.0 (bare_turn c.0.number) (step_with c.0 c.2.response) (All-contains (IsRecorded marks) calls c.0 each (contains_at calls p.0 c.0 c.1)) (laws.taken_bare c.0 c.2.response c.2.plain))
+      (laws.readable no_grants marks c.0 (bare_turn c.0.number) (step_with c.0 c.2.response) (All-contains (IsRecorded marks) calls c.0 each (contains_at calls p.0 c.0 c.1))
+      (laws.taken_bare no_grants c.0 c.2.response c.2.plain))
 
   -- ---- a run of the calls is a run of their steps
 
@@ -184,14 +191,14 @@ module _ (calls : List CallOf) (steps : List StepOf) (plain : ArePlain calls ste
             let number : StepOf → ℤ = λ s. s.number in
             steps_once i j a less (slice_get_within steps j b there) (ap number x ∙ same ∙ sym (ap number y))
 
-    module _ (law : PlainCallHasOneStep) (rules : RulesOf) (start : List Thing) (order : List StepOf) (run : IsRun rules calls start order) where
+    module _ (law : PlainCallHasOneStep) (g : GrantsOf) (nothing : GrantsNothing g) (rules : RulesOf) (start : List Thing) (order : List StepOf) (run : IsRun g rules calls start order) where
       -- each step of the run is that of a call
       of_steps : (s : StepOf) → Contains order s → Contains steps s
       of_steps s has =
           let m = run.once.of_calls s has in
           let p = at_contains calls m.0 m.2 in
           let x = plain_from calls steps p.0 m.0 plain p.1 in
-          let same : x.0 ≡ s = x.2.is ∙ sym (law m.0 x.2.response m.1 s x.2.plain m.3) in
+          let same : x.0 ≡ s = x.2.is ∙ sym (law g m.0 x.2.response m.1 s nothing x.2.plain m.3) in
           let P : StepOf → Type 0 = λ y. Contains steps y in
           subst P same (contains_at steps p.0 x.0 x.1)
 
@@ -227,4 +234,4 @@ module _ (calls : List CallOf) (steps : List StepOf) (plain : ArePlain calls ste
 pub plain_one_readable : (marks : List MarkOf) (laws : LawsOfCheck) (c : CallOf) (s : StepOf) → IsRecorded marks c → IsPlainStep c s → IsReadableCall s.request s.response
 plain_one_readable marks laws c s recorded p =
     let P : StepOf → Type 0 = λ x. IsReadableCall x.request x.response in
-    subst P (sym p.is) (laws.readable marks c (bare_turn c.number) (step_with c p.response) recorded (laws.taken_bare c p.response p.plain))
+    subst P (sym p.is) (laws.readable no_grants marks c (bare_turn c.number) (step_with c p.response) recorded (laws.taken_bare no_grants c p.response p.plain))

@@ -11,10 +11,9 @@ use Rattle.kmipa_ttlv.specs.Spelling.{tag_at, kind_at, len_at, value_at, padded,
 use Rattle.kmipa_ttlv.specs.Stream.{Begins}
 use Rattle.kmipa_record.specs.Marks.{MarkOf, begins, call_of, IsCallNumber, AreRecorded}
 use Rattle.kmipa_record.specs.Tags.{version_tag, call_tag, witness_header_tag, turn_tag}
-use Rattle.kmipa_record.specs.Witnesses.{TurnOf, turn_item, Admits, IsWitness}
+use Rattle.kmipa_record.specs.Witnesses.{TurnOf, bare_turn, turn_item, Admits, IsWitness}
 use Rattle.kmipa_record.specs.declared.version.Version.TheVariants.{First}
 use Rattle.kmipa_check.specs.Calls.{CallOf, IsRecorded}
-use Rattle.kmipa_check.specs.Plain.{bare_turn}
 use Rattle.kmipa_check.proofs.PlaceLemmas.{contains_at, mapped_from}
 
 -- a structure with one number in it
@@ -103,7 +102,15 @@ turns_admitted : (numbers : List ℤ) → All (Admits First) (map bare_turn numb
 turns_admitted numbers i d below =
     let p = mapped_from bare_turn numbers i (get_or (map bare_turn numbers) i d) (slice_get-get_or (map bare_turn numbers) i d below) in
     let P : TurnOf → Type 0 = λ t. Admits First t in
-    subst P p.2 (record { answered = λ some. absurd cc; ordered = λ some. absurd (some refl); payloads = λ k e within. absurd (omega (arith, within)) })
+    subst P p.2 (record {
+      answered = λ some. absurd cc;
+      ordered = λ some. absurd (some refl);
+      timed = λ some. absurd cc;
+      born = λ some. absurd (some refl);
+      aside = λ some. absurd (some refl);
+      payloads = λ k e within. absurd (omega (arith, within));
+      attributes = λ k e within. absurd (omega (arith, within));
+    })
 
 turns_numbered : (numbers : List ℤ) → ((z : ℤ) → Contains numbers z → IsCallNumber z) → All (λ turn. IsCallNumber turn.call) (map bare_turn numbers)
 turns_numbered numbers numbered i d below =

@@ -2,16 +2,15 @@
 use Rattle.std.specs.Prelude.{◌≡◌, ℕ, List, map, Result, Ok, Err}
 use Rattle.kmipa_record.specs.Marks.{MarkOf}
 use Rattle.kmipa_record.specs.Declarations.{DeclarationOf}
-use Rattle.kmipa_record.specs.Witnesses.{TurnOf, IsWitness, witness_of}
+use Rattle.kmipa_record.specs.Witnesses.{TurnOf, IsWitness, bare_turn, witness_of}
 use Rattle.kmipa_record.specs.declared.witness.Witness.{Witness}
-use Rattle.kmipa_check.specs.Plain.{bare_turn}
 use Rattle.kmipa_check.specs.Steps.{StepOf}
 use Rattle.kmipa_check.specs.Runs.{IsAccepted}
 use Rattle.kmipa_check.specs.declared.fault.CheckFault.{CheckFault}
 use Rattle.kmipa_check.specs.declared.fault.CheckFault.TheVariants as fault
 use Rattle.kmipa_search.specs.Taken.{step_at}
 use Rattle.kmipa_search.specs.declared.found.Found.{Found}
-use Rattle.kmipa_search.specs.declared.found.Found.TheVariants.{Yes, GaveUp}
+use Rattle.kmipa_search.specs.declared.found.Found.TheVariants.{Yes, GaveUp, Refuted}
 
 abbrev pub turns_at : List StepOf → List ℕ → List TurnOf
 turns_at calls places = map (λ place. bare_turn (step_at calls place).number) places
@@ -20,6 +19,7 @@ turns_at calls places = map (λ place. bare_turn (step_at calls place).number) p
 abbrev pub Confirms : Witness → ℕ → Result Found CheckFault → Type 0
 Confirms witness count (Ok (Yes w n)) = (w ≡ witness) × (n ≡ count)
 Confirms witness count (Ok (GaveUp n)) = ⊥
+Confirms witness count (Ok (Refuted n object)) = ⊥
 Confirms witness count (Err fault.Memory) = Unit {0}
 Confirms witness count (Err (fault.Outside number side o)) = ⊥
 Confirms witness count (Err (fault.Witness f)) = ⊥
@@ -28,6 +28,7 @@ Confirms witness count (Err (fault.Witness f)) = ⊥
 abbrev pub IsTried : List MarkOf → DeclarationOf → Witness → ℕ → Result Found CheckFault → Type 0
 IsTried marks declared witness count (Ok (Yes w n)) = (w ≡ witness) × (n ≡ count) × IsAccepted marks declared (witness_of witness) × ((bytes : List ℕ) × IsWitness bytes (witness_of witness))
 IsTried marks declared witness count (Ok (GaveUp n)) = n ≡ count
+IsTried marks declared witness count (Ok (Refuted n object)) = ⊥
 IsTried marks declared witness count (Err fault.Memory) = Unit {0}
 IsTried marks declared witness count (Err (fault.Outside number side o)) = ⊥
 IsTried marks declared witness count (Err (fault.Witness f)) = ⊥

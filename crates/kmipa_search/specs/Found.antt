@@ -1,17 +1,20 @@
 -- What a search tells.
 use Rattle.std.specs.Prelude.{◌<◌, ◌≤◌, ℕ, List, length, Result, Ok, Err}
+use Rattle.std.specs.String.{string_bytes}
 use Rattle.kmipa_record.specs.Marks.{MarkOf}
 use Rattle.kmipa_record.specs.Declarations.{DeclarationOf}
 use Rattle.kmipa_record.specs.Witnesses.{witness_of, IsWitness}
 use Rattle.kmipa_check.specs.Calls.{CallOf, AreCalls, IsFirstOutside}
+use Rattle.kmipa_check.specs.Grants.{GrantsNothing, grants_declared}
 use Rattle.kmipa_check.specs.Steps.{StepOf}
 use Rattle.kmipa_check.specs.Runs.{IsAccepted, IsExplained}
 use Rattle.kmipa_check.specs.declared.fault.CheckFault.{CheckFault}
 use Rattle.kmipa_check.specs.declared.fault.CheckFault.TheVariants.{Outside, Witness, Memory}
 use Rattle.kmipa_search.specs.Plain.{ArePlain, IsForced}
+use Rattle.kmipa_search.specs.ByObject.{IsRefutedBy}
 use Rattle.kmipa_search.specs.Next.{weight}
 use Rattle.kmipa_search.specs.declared.found.Found.{Found}
-use Rattle.kmipa_search.specs.declared.found.Found.TheVariants.{Yes, GaveUp}
+use Rattle.kmipa_search.specs.declared.found.Found.TheVariants.{Yes, GaveUp, Refuted}
 
 -- Where a search that gives up has decided: the calls are plain, and steps were left, or the budget was enough for every try; or they are
 -- forced, and it was enough to try each call once.
@@ -21,12 +24,14 @@ pub data HasDecided (calls : List CallOf) (budget count : ℕ) : Type 0 where
   one_by_one : IsForced calls → length calls ≤ budget → HasDecided calls budget count
 
 -- A yes comes with a witness that is accepted and can be written. Each of its turns was tried, within the budget. Giving up comes
--- only where all messages are inside, and tells that nothing explains these calls, where the search has decided.
+-- only where all messages are inside, and tells that nothing explains these calls, where the search has decided and the declaration grants
+-- nothing. Where one object refutes the transcript, nothing explains it, whatever the budget.
 abbrev pub Finds : List MarkOf → DeclarationOf → ℕ → Found → Type 0
 Finds marks declared budget (Yes witness count) = IsAccepted marks declared (witness_of witness) × ((bytes : List ℕ) × IsWitness bytes (witness_of witness))
     × (count ≤ budget) × (length (witness_of witness) ≤ count)
 Finds marks declared budget (GaveUp count) = (count ≤ budget)
-    × ((calls : List CallOf) × AreCalls marks calls × (HasDecided calls budget count → IsExplained marks declared → ⊥))
+    × ((calls : List CallOf) × AreCalls marks calls × (GrantsNothing (grants_declared declared) → HasDecided calls budget count → IsExplained marks declared → ⊥))
+Finds marks declared budget (Refuted count object) = (count ≤ budget) × IsRefutedBy marks declared (string_bytes object) × (IsExplained marks declared → ⊥)
 
 -- what a search answers: what it found, or the first message that is outside
 abbrev pub Searches : List MarkOf → DeclarationOf → ℕ → Result Found CheckFault → Type 0

@@ -5,6 +5,7 @@ use Rattle.kmipa_store.specs.Ledger.{Meaning}
 use Rattle.kmipa_record.specs.Marks.{MarkOf, AreRecorded}
 use Rattle.kmipa_record.specs.Declarations.{DeclarationOf}
 use Rattle.kmipa_check.specs.Calls.{CallOf, AreCalls}
+use Rattle.kmipa_check.specs.Grants.{GrantsNothing, grants_declared}
 use Rattle.kmipa_batch.specs.Refusals.{CallExplainsAlong}
 use Rattle.kmipa_check.specs.Steps.{StepOf, order_of}
 use Rattle.kmipa_check.specs.Runs.{IsExplained, rules_declared}
@@ -16,21 +17,23 @@ use Rattle.kmipa_search.specs.Next.{IsNext, is_next, weight}
 use Rattle.kmipa_search.specs.Taken.{so_far, AreNext, IsDead, AreSame}
 use Rattle.kmipa_search.specs.Found.{Finds}
 use Rattle.kmipa_search.specs.declared.found.Found.{Found}
-use Rattle.kmipa_search.specs.declared.found.Found.TheVariants.{Yes, GaveUp}
+use Rattle.kmipa_search.specs.declared.found.Found.TheVariants.{Yes, GaveUp, Refuted}
 use Rattle.kmipa_search.specs.Stills.{stills}
 
 abbrev pub is_yes : Found → Bool
 is_yes (Yes witness count) = true
 is_yes (GaveUp count) = false
+is_yes (Refuted count object) = false
 
 -- the budget is enough for every try, or, of forced calls, to try each once
 abbrev pub IsEnough : List CallOf → ℕ → Type 0
 IsEnough calls budget = ((steps : List StepOf) × ArePlain calls steps × (weight steps ≤ budget)) ⊎ (IsForced calls × (length calls ≤ budget))
 
--- then a search says yes exactly where the transcript is explained
+-- then, where the declaration grants nothing, a search says yes exactly where the transcript is explained
 abbrev pub EnoughDecides : Type 0
 EnoughDecides = (marks : List MarkOf) (declared : DeclarationOf) (calls : List CallOf) (budget : ℕ) (found : Found)
-    → AreRecorded marks → AreCalls marks calls → IsEnough calls budget → Finds marks declared budget found → Decided (is_yes found) (IsExplained marks declared)
+    → GrantsNothing (grants_declared declared) → AreRecorded marks → AreCalls marks calls → IsEnough calls budget → Finds marks declared budget found
+    → Decided (is_yes found) (IsExplained marks declared)
 
 -- of forced calls the weight is at most their number
 abbrev pub ForcedIsLight : Type 0

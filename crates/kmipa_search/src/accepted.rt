@@ -13,9 +13,8 @@ ghost use Rattle.kmipa_search.specs.Found.{Finds};
 use crate::candidate::Candidate;
 use crate::check_laws::check_laws;
 use crate::found::Found;
-use crate::plain::bare_turn;
 use kmipa_check::{Call, CheckFault, Verdict, check_calls};
-use kmipa_record::{Declaration, Witness};
+use kmipa_record::{Declaration, Turn, Witness};
 use std::alloc::{AllocError, Global};
 
 /// What is found where a check accepts the calls in the order of these places, each of which was tried in so many steps; none where it doesn't.
@@ -56,7 +55,7 @@ pub(crate) fn witness_at(
 {
     let mut turns = Vec::with_capacity(alloc, order.len())?;
     'places: for place in order {
-        turns.push(bare_turn(alloc, calls[*place].number))?;
+        turns.push(Turn::bare(alloc, calls[*place].number))?;
     }
     Ok(Witness { turns })
 }

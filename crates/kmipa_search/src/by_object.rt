@@ -1,27 +1,29 @@
 //! What one object says of calls: where the parts of the calls on it have no run, the calls have none.
 
-ghost use Rattle.std.specs.Prelude.{◌≡◌, ◌<◌, IfErr, IfOk, IfSome, List, None, bytes_eq, map, option_map, true};
+ghost use Rattle.std.specs.Prelude.{◌≡◌, ◌<◌, ℕ, IfErr, IfOk, IfSome, List, None, Some, bytes_eq, map, option_map, true};
 ghost use Rattle.std.specs.String.{string_bytes};
 ghost use Rattle.kmipa_record.specs.Declarations.{AreDeclared, declaration_of};
 ghost use Rattle.kmipa_record.specs.Marks.{AreRecorded, MarkOf};
-ghost use Rattle.kmipa_check.specs.Calls.{AreCalls, CallOf};
+ghost use Rattle.kmipa_check.specs.Calls.{AreCalls, call_of};
+ghost use Rattle.kmipa_check.specs.Grants.{GrantsNothing, grants_declared};
 ghost use Rattle.kmipa_record.specs.Entries.{entry_of, items_of};
-ghost use Rattle.kmipa_parts.specs.Parts.{AreParts, IsElsewhere, IsPartOf};
-ghost use Rattle.kmipa_search.specs.ByObject.{AreOrderly, Refuted, declared_on, part_step};
+ghost use Rattle.kmipa_parts.specs.Parts.{IsElsewhere, IsPartOf};
+ghost use Rattle.kmipa_search.specs.ByObject.{AreCallParts, AreOrderly, IsCallPart, RefutesCalls, declared_on, part_step};
 ghost use Rattle.kmipa_search.specs.Candidates.{candidate_step};
-ghost use Rattle.kmipa_search.specs.Found.{Finds};
-ghost use Rattle.kmipa_search.specs.Plain.{ArePlain};
+ghost use Rattle.kmipa_search.specs.Found.{Finds, Searches};
 ghost use Rattle.kmipa_search.specs.Progress.{AllReadable, HaveRun};
 
 use crate::candidate::Candidate;
 use crate::check_laws::check_laws;
 use crate::found::Found;
+use crate::grants::grants_nothing;
 use crate::order::{EARLY, Outcome, find_order};
-use crate::suspects::named_objects;
+use crate::plain::candidate_of;
+use crate::suspects::{Suspect, Suspects, named_objects};
 use crate::watch::Unwatched;
 use kmipa_batch::is_readable_call;
 use kmipa_check::{Call, CheckFault, open_ledger, rules_of_declaration};
-use kmipa_parts::{Part, leave_be, part_of};
+use kmipa_parts::{Part, leave_be, may_touch, part_of};
 use kmipa_record::{Declaration, Entry};
 use std::alloc::{AllocError, Global};
 
@@ -53,44 +55,138 @@ struct Looked {
     steps: u64,
 }
 
+/// An object that refutes the calls.
+#[derive(Drop)]
+struct Refuting<'a> {
+    id: &'a str,
+    /// How many parts were tried for it.
+    steps: u64,
+}
+
 /// The objects are looked at, one after the other, until one is found of which the parts of the calls have no run. Then neither have the calls,
-/// and the search gives up with the steps that it makes first and those that were made for this object, where they are fewer than the budget.
+/// and it is told with the steps that the search makes first and those that were made for this object, where they are fewer than the budget.
+/// None is looked at where the declaration grants anything.
 pub(crate) fn search_by_object(
     alloc: Global,
+    calls: &[Call],
     declaration: &Declaration,
-    own: &[Candidate],
     budget: u64,
 ) -> Result<Option<Found>, CheckFault>
-    requires declared { AreDeclared (declaration_of declaration.now) }
-    requires readable { AllReadable (map candidate_step own.now) }
-    ensures finds { (marks : List MarkOf) (calls : List CallOf) → AreRecorded marks → AreCalls marks calls
-        → ArePlain calls (map candidate_step own.now)
+    requires { AreDeclared (declaration_of declaration.now) }
+    ensures finds { (marks : List MarkOf) → AreRecorded marks → AreCalls marks (map call_of calls.now)
         → IfOk result (λ found. IfSome found (Finds marks (declaration_of declaration.now) budget)) }
     ensures memory { IfErr result (λ fault. fault ≡ CheckFault.Memory) }
 {
     check_laws();
-    let Ok(refuted) = first_refuted(alloc, declaration, own) else {
+    let Ok(refuted) = first_refuted(alloc, declaration, calls) else {
         return Err(CheckFault::Memory);
     };
-    let Some(steps) = refuted else {
+    let Some(refuting) = refuted else {
         return Ok(None);
     };
-    let all = EARLY.saturating_add(steps);
+    let all = EARLY.saturating_add(refuting.steps);
     if all >= budget {
         return Ok(None);
     }
-    Ok(Some(Found::GaveUp(all)))
+    let object = String::from_str(alloc, refuting.id)?;
+    Ok(Some(Found::Refuted(all, object)))
 }
 
-/// The steps that were made for the first object that is found of which the parts of the calls have no run.
-fn first_refuted(
+/// What a search answered; or where it gave up, with the same steps, that one object refutes the calls, if one does.
+pub(crate) fn or_refuted(
+    alloc: Global,
+    calls: &[Call],
+    declaration: &Declaration,
+    answered: Result<Found, CheckFault>,
+) -> Result<Found, CheckFault>
+    requires { AreDeclared (declaration_of declaration.now) }
+    ensures { (marks : List MarkOf) (budget : ℕ) → AreRecorded marks → AreCalls marks (map call_of calls.now)
+        → Searches marks (declaration_of declaration.now) budget answered
+        → Searches marks (declaration_of declaration.now) budget result }
+{
+    match answered {
+        Ok(found) => found_or_refuted(alloc, calls, declaration, found),
+        Err(fault) => Err(fault),
+    }
+}
+
+/// The same of what a search found.
+fn found_or_refuted(
+    alloc: Global,
+    calls: &[Call],
+    declaration: &Declaration,
+    found: Found,
+) -> Result<Found, CheckFault>
+    requires { AreDeclared (declaration_of declaration.now) }
+    ensures { (marks : List MarkOf) (budget : ℕ) → AreRecorded marks → AreCalls marks (map call_of calls.now)
+        → Finds marks (declaration_of declaration.now) budget found
+        → Searches marks (declaration_of declaration.now) budget result }
+{
+    match found {
+        Found::Yes(witness, steps) => Ok(Found::Yes(witness, steps)),
+        Found::GaveUp(steps) => gave_up(alloc, calls, declaration, steps),
+        Found::Refuted(steps, object) => Ok(Found::Refuted(steps, object)),
+    }
+}
+
+/// The same of a search that gave up after so many steps.
+fn gave_up(
+    alloc: Global,
+    calls: &[Call],
+    declaration: &Declaration,
+    steps: u64,
+) -> Result<Found, CheckFault>
+    requires { AreDeclared (declaration_of declaration.now) }
+    ensures { (marks : List MarkOf) (budget : ℕ) → AreRecorded marks → AreCalls marks (map call_of calls.now)
+        → Finds marks (declaration_of declaration.now) budget (Found.GaveUp steps)
+        → Searches marks (declaration_of declaration.now) budget result }
+{
+    check_laws();
+    let Ok(refuted) = first_refuted(alloc, declaration, calls) else {
+        return Err(CheckFault::Memory);
+    };
+    let Some(refuting) = refuted else {
+        return Ok(Found::GaveUp(steps));
+    };
+    let Ok(object) = String::from_str(alloc, refuting.id) else {
+        return Err(CheckFault::Memory);
+    };
+    Ok(Found::Refuted(steps, object))
+}
+
+/// The first object that is found of which the parts of the calls have no run, where the declaration grants nothing: calls may else be taken at
+/// other moments than their stamps, and nothing is refuted.
+fn first_refuted<'a>(
     alloc: Global,
     declaration: &Declaration,
-    calls: &[Candidate],
-) -> Result<Option<u64>, CheckFault>
+    calls: &[Call<'a>],
+) -> Result<Option<Refuting<'a>>, CheckFault>
     requires { AreDeclared (declaration_of declaration.now) }
-    ensures { IfOk result
-        (λ steps. IfSome steps (λ _. Refuted (declaration_of declaration.now) (map candidate_step calls.now))) }
+    ensures nothing { IfOk result
+        (λ refuting. IfSome refuting (λ r. GrantsNothing (grants_declared (declaration_of declaration.now)))) }
+    ensures refutes { (marks : List MarkOf) → AreRecorded marks → AreCalls marks (map call_of calls.now)
+        → IfOk result
+        (λ refuting. IfSome refuting
+        (λ r. RefutesCalls (declaration_of declaration.now) (map call_of calls.now) r.id.now)) }
+{
+    if grants_nothing(declaration) {
+        first_without_run(alloc, declaration, calls)
+    } else {
+        Ok(None)
+    }
+}
+
+/// The same, whatever the declaration grants. Objects are passed over that a call may touch which isn't plain.
+fn first_without_run<'a>(
+    alloc: Global,
+    declaration: &Declaration,
+    calls: &[Call<'a>],
+) -> Result<Option<Refuting<'a>>, CheckFault>
+    requires { AreDeclared (declaration_of declaration.now) }
+    ensures { (marks : List MarkOf) → AreRecorded marks → AreCalls marks (map call_of calls.now)
+        → IfOk result
+        (λ refuting. IfSome refuting
+        (λ r. RefutesCalls (declaration_of declaration.now) (map call_of calls.now) r.id.now)) }
 {
     let found = named_objects(alloc, calls)?;
     if found
@@ -103,9 +199,9 @@ fn first_refuted(
     }
     let mut left = ALL_STEPS;
     'objects: for object in &found.objects {
-        let places = found.places(alloc, object)?;
-        let looked = first_look(alloc, declaration, calls, object.id, &places, left)?;
+        let looked = found_look(alloc, declaration, calls, &found, object, left)?;
         if looked.refuted {
+            let places = found.places(alloc, object)?;
             return refutes(alloc, declaration, calls, object.id, &places);
         }
         left = left.saturating_sub(looked.steps);
@@ -116,11 +212,32 @@ fn first_refuted(
     Ok(None)
 }
 
-/// Searches the parts of the calls at these places on one object: it is not looked whether others are about it.
-fn first_look<'b, 'a>(
+/// Searches the parts of the calls on an object, unless a call may touch it that isn't plain.
+fn found_look<'a>(
     alloc: Global,
     declaration: &Declaration,
-    calls: &[Candidate<'b, 'a>],
+    calls: &[Call<'a>],
+    found: &Suspects<'a>,
+    object: &Suspect<'a>,
+    most: u64,
+) -> Result<Looked, CheckFault>
+    requires { AreDeclared (declaration_of declaration.now) }
+{
+    if found.is_touched(calls, object.id) {
+        return Ok(Looked {
+            refuted: false,
+            steps: 0,
+        });
+    }
+    let places = found.places(alloc, object)?;
+    first_look(alloc, declaration, calls, object.id, &places, most)
+}
+
+/// Searches the parts of the calls at these places on one object: it is not looked whether others are about it.
+fn first_look<'a>(
+    alloc: Global,
+    declaration: &Declaration,
+    calls: &[Call<'a>],
     id: &'a str,
     places: &[usize],
     most: u64,
@@ -130,7 +247,7 @@ fn first_look<'b, 'a>(
     let mut parts = Vec::with_capacity(alloc, places.len())?;
     'places: for place in places {
         if let Some(call) = calls.get(*place) {
-            if let Some(part) = call_part(alloc, id, call)? {
+            if let Some(part) = plain_part(alloc, id, call)? {
                 parts.push(part)?;
             }
         }
@@ -138,25 +255,31 @@ fn first_look<'b, 'a>(
     search_parts(alloc, declaration, id, &parts, u64::min(most, MOST_STEPS))
 }
 
-/// Searches the parts of calls on one object, those at these places, for an order. Where there is none, the calls have no run, and it is
-/// answered how many steps were made; else nothing is.
-fn refutes<'b, 'a>(
+/// Searches the parts of calls on one object, those at these places, for an order. Where there is none, and no other call may change the object,
+/// it refutes the calls.
+fn refutes<'a>(
     alloc: Global,
     declaration: &Declaration,
-    calls: &[Candidate<'b, 'a>],
+    calls: &[Call<'a>],
     id: &'a str,
     places: &[usize],
-) -> Result<Option<u64>, CheckFault>
+) -> Result<Option<Refuting<'a>>, CheckFault>
     requires { AreDeclared (declaration_of declaration.now) }
-    ensures { IfOk result
-        (λ steps. IfSome steps (λ _. Refuted (declaration_of declaration.now) (map candidate_step calls.now))) }
+    ensures { (marks : List MarkOf) → AreRecorded marks → AreCalls marks (map call_of calls.now)
+        → IfOk result
+        (λ refuting. IfSome refuting
+        (λ r. RefutesCalls (declaration_of declaration.now) (map call_of calls.now) r.id.now)) }
 {
+    check_laws();
     let Some(parts) = parts_on(alloc, calls, id, places)? else {
         return Ok(None);
     };
     let looked = search_parts(alloc, declaration, id, &parts, MOST_STEPS)?;
     if looked.refuted {
-        Ok(Some(looked.steps))
+        Ok(Some(Refuting {
+            id,
+            steps: looked.steps,
+        }))
     } else {
         Ok(None)
     }
@@ -206,13 +329,13 @@ fn has_decided(outcome: &Outcome, most: u64) -> bool
 /// the object.
 fn parts_on<'b, 'a>(
     alloc: Global,
-    calls: &[Candidate<'b, 'a>],
+    calls: &'b [Call<'a>],
     id: &'a str,
     places: &[usize],
 ) -> Result<Option<Vec<CallPart<'b, 'a>>>, AllocError>
     ensures { IfOk result
         (λ parts. IfSome parts
-        (λ own. AreParts id.now (map candidate_step calls.now) (map part_step own.items))) }
+        (λ own. AreCallParts id.now (map call_of calls.now) (map part_step own.items))) }
 {
     let mut parts = Vec::with_capacity(alloc, places.len())?;
     let mut next = 0;
@@ -220,7 +343,7 @@ fn parts_on<'b, 'a>(
     'calls: while at < calls.len() {
         let call = &calls[at];
         if next < places.len() && places[next] == at {
-            let Some(part) = call_part(alloc, id, call)? else {
+            let Some(part) = plain_part(alloc, id, call)? else {
                 return Ok(None);
             };
             parts.push(part)?;
@@ -233,7 +356,22 @@ fn parts_on<'b, 'a>(
     Ok(Some(parts))
 }
 
-/// The part of a call on one object.
+/// The part of a plain call on one object.
+fn plain_part<'b, 'a>(
+    alloc: Global,
+    id: &'a str,
+    call: &'b Call<'a>,
+) -> Result<Option<CallPart<'b, 'a>>, AllocError>
+    ensures { IfOk result
+        (λ part. IfSome part (λ own. IsCallPart id.now (call_of call.now) (Some (part_step own)))) }
+{
+    match candidate_of(call) {
+        Some(own) => call_part(alloc, id, &own),
+        None => Ok(None),
+    }
+}
+
+/// The same of one as a search takes it.
 fn call_part<'b, 'a>(
     alloc: Global,
     id: &'a str,
@@ -253,8 +391,18 @@ fn call_part<'b, 'a>(
     }))
 }
 
-/// Whether a call leaves the object as it is.
-fn is_elsewhere(id: &str, call: &Candidate) -> bool
+/// Whether a call leaves the object as it is; one that isn't plain, whatever it is answered.
+fn is_elsewhere(id: &str, call: &Call) -> bool
+    ensures { result ≡ true → IsCallPart id.now (call_of call.now) None }
+{
+    match candidate_of(call) {
+        Some(own) => leaves_be(id, &own),
+        None => !may_touch(id, &call.request),
+    }
+}
+
+/// Whether a plain call leaves the object as it is.
+fn leaves_be(id: &str, call: &Candidate) -> bool
     ensures { result ≡ true → IsElsewhere id.now (candidate_step call.now) }
 {
     leave_be(id, call.request, call.response)

@@ -9,4 +9,6 @@ pub enum Found {
     Yes(Witness, u64),
     /// No witness, and how many calls were tried.
     GaveUp(u64),
+    /// No witness, how many calls were tried, and the identifier of an object that refutes them: no order explains the answers about it.
+    Refuted(u64, String),
 }

@@ -33,12 +33,9 @@ pub fn guessed_turn<L: Ledger>(
         }
         place += 1;
     }
-    Ok(Turn {
-        call: call.call.number,
-        answer: None,
-        places: Vec::new(alloc),
-        fills,
-    })
+    let mut turn = Turn::bare(alloc, call.call.number);
+    turn.fills = fills;
+    Ok(turn)
 }
 
 /// The payload that is guessed: of a Locate each object that has to be listed, in the order of the inventory; of a Create or Register at
@@ -53,6 +50,30 @@ fn guessed_payload<L: Ledger>(
         Effect::Lists(filter) => fitting(alloc, ledger, filter)?,
         _ => undone(alloc, item)?,
     };
+    let tag = Tag {
+        number: RESPONSE_PAYLOAD,
+    };
+    Ok(Item::structure(tag, ids))
+}
+
+/// The payload that is guessed of an item at its own place: as above, but with the identifier that a later answer shows, if one does.
+pub(crate) fn payload_at<L: Ledger>(
+    alloc: Global,
+    ledger: &L,
+    ask: &Ask,
+    item: i32,
+    shown: Option<&str>,
+) -> Result<Item, AllocError> {
+    let Some(id) = shown else {
+        return guessed_payload(alloc, ledger, ask, item);
+    };
+    if let Effect::Lists(filter) = row_of(&ask.asked).effect {
+        if filter.maximum != Some(1) {
+            return guessed_payload(alloc, ledger, ask, item);
+        }
+    }
+    let mut ids = Vec::new(alloc);
+    ids.push(identifier(alloc, id)?)?;
     let tag = Tag {
         number: RESPONSE_PAYLOAD,
     };

@@ -9,11 +9,11 @@ use crate::candidate::Candidate;
 use crate::check_laws::check_laws;
 use crate::guesses::guessed_turn;
 use crate::order::{not_taken, try_call};
-use crate::plain::{bare_turn, plain_ones};
+use crate::plain::plain_ones;
 use crate::remaining::Remaining;
 use crate::watch::Watch;
 use kmipa_batch::take_call;
-use kmipa_check::{Call, CheckFault, StepFault, step_of_turn};
+use kmipa_check::{Call, CheckFault, Grants, StepFault, step_of_turn};
 use kmipa_msgs::Rules;
 use kmipa_record::Turn;
 use kmipa_store::{Ledger, Mark};
@@ -143,7 +143,7 @@ fn try_plain<L: Ledger>(
 {
     match try_call(alloc, ledger, rules, call)? {
         Some(depth) => Ok(Some(Taken {
-            turn: bare_turn(alloc, call.number),
+            turn: Turn::bare(alloc, call.number),
             depth,
         })),
         None => Ok(None),
@@ -170,7 +170,8 @@ fn try_guess<L: Ledger>(
     }
 }
 
-/// Takes a call as a turn makes its step, after a new mark, and answers the mark's depth; or the ledger is as before.
+/// Takes a call as a turn makes its step, after a new mark, and answers the mark's depth; or the ledger is as before. No turn that is tried so
+/// gives a moment.
 pub fn take_turn<L: Ledger>(
     alloc: Global,
     ledger: &mut L,
@@ -184,7 +185,8 @@ pub fn take_turn<L: Ledger>(
     ensures { TurnTried (L.state ledger.old) result (L.state ledger.new) }
 {
     check_laws();
-    let step = match step_of_turn(alloc, call, turn) {
+    let grants = Grants { tolerance: 0 };
+    let step = match step_of_turn(alloc, &grants, call, turn) {
         Ok(step) => step,
         Err(StepFault::Unfit(_)) => return Ok(None),
         Err(StepFault::Memory) => return Err(CheckFault::Memory),

@@ -1,12 +1,13 @@
 //! Laws of the definitions.
 
-ghost use Rattle.kmipa_search.specs.ByObject.{RunsByObject};
+ghost use Rattle.kmipa_search.specs.ByObject.{RefutedByObject, RunsByObject};
 ghost use Rattle.kmipa_search.specs.Laws.{EnoughDecides, ForcedIsLight, IdleFirst, NextIsTested, EqualIsEqual};
 
+use crate::check_laws::check_laws;
 use kmipa_check::one_list_of_calls;
 
-/// Where the budget is enough for every try, or in a forced transcript for each call once, a search says yes exactly where the transcript
-/// is explained.
+/// Where the declaration grants nothing, and the budget is enough for every try, or in a forced transcript for each call once, a search says
+/// yes exactly where the transcript is explained.
 pub fn enough_decides()
     ensures { EnoughDecides }
 {
@@ -39,3 +40,11 @@ pub fn equal_is_equal()
 pub fn runs_by_object()
     ensures { RunsByObject }
 {}
+
+/// Where the parts of all calls on one object have no run, no call that isn't plain may touch it, and the declaration grants nothing, no order
+/// explains the transcript.
+pub fn refuted_by_object()
+    ensures { RefutedByObject }
+{
+    check_laws();
+}

@@ -4,6 +4,7 @@
 mod accepted;
 mod by_lives;
 mod by_object;
+mod by_turns;
 mod candidate;
 mod check_laws;
 mod deepest;
@@ -11,12 +12,15 @@ mod ends;
 mod forced;
 mod forthright;
 mod found;
+mod grants;
 mod guesses;
 mod guessing;
 mod idle;
 mod laws;
 mod links;
+mod made_turns;
 mod open;
+mod open_answers;
 mod open_searching;
 mod order;
 mod picking;
@@ -27,6 +31,7 @@ mod reaching;
 mod remaining;
 mod searching;
 mod settled;
+mod sights;
 mod stills;
 mod stuck;
 mod suspects;
@@ -37,8 +42,10 @@ mod watch;
 pub use deepest::Deepest;
 pub use forced::is_forced;
 pub use found::Found;
+pub use grants::grants_nothing;
 pub use laws::{
-    enough_decides, equal_is_equal, forced_is_light, idle_first, next_is_tested, runs_by_object,
+    enough_decides, equal_is_equal, forced_is_light, idle_first, next_is_tested, refuted_by_object,
+    runs_by_object,
 };
 pub use open_searching::{search_open, search_open_calls};
 pub use reaching::reached;

@@ -13,5 +13,6 @@ mod stories;
 mod tables;
 mod turns;
 
+pub use answer::spelling_of;
 pub use descent::find_turns;
 pub use tables::Tables;

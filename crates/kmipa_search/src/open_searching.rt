@@ -1,19 +1,23 @@
 //! The search for a witness that also takes calls without an end mark.
 
-ghost use Rattle.std.specs.Prelude.{All, map};
+ghost use Rattle.std.specs.Prelude.{◌≡◌, All, IfErr, map};
 ghost use Rattle.kmipa_record.specs.Declarations.{AreDeclared, declaration_of};
 ghost use Rattle.kmipa_record.specs.Marks.{AreRecorded};
 ghost use Rattle.kmipa_record.specs.Transcripts.{transcript_of};
 ghost use Rattle.kmipa_check.specs.Calls.{AreCalls, IsRecorded, call_of};
 ghost use Rattle.kmipa_search.specs.Candidates.{AreNotPlain};
+ghost use Rattle.kmipa_search.specs.Guessing.{AreAllRecorded};
 ghost use Rattle.kmipa_search.specs.Found.{Searches};
 
+use crate::by_object::or_refuted;
+use crate::by_turns::search_by_turns;
 use crate::check_laws::check_laws;
 use crate::found::Found;
 use crate::open::{Tables, find_turns};
+use crate::order::EARLY;
 use crate::plain::candidates;
 use crate::searching::{search_plain, try_witness};
-use crate::watch::Watch;
+use crate::watch::{Unwatched, Watch};
 use kmipa_check::{Call, CheckFault, open_ledger, read_calls, rules_of_declaration};
 use kmipa_record::{Declaration, Transcript, Witness};
 use std::alloc::Global;
@@ -31,6 +35,11 @@ use std::alloc::Global;
 /// object that a call names which may be next, and that nothing declares or answers; then the calls that change such an object, or one that a
 /// Locate leaves out; and, unless an open call was taken just before, the others. And where an answer shows a date that it can have left,
 /// it is tried at that date, ahead of all that is answered later.
+///
+/// Where the first 1,000 steps find nothing, and the budget is more, the lives of the objects propose turns: an open call is a part of the lives
+/// of the objects that it names, or that answers show and nothing else brings, where they ask for it. What is needed of a batch is done, and what
+/// its option wants done with it; the others of its items fail. The items of a batch without order are taken as they are possible, those
+/// without effect first. Where a check accepts these turns, they are found with those steps and one more for each.
 pub fn search_open<W: Watch>(
     alloc: Global,
     transcript: &Transcript,
@@ -64,7 +73,57 @@ pub fn search_open_calls<W: Watch>(
     check_laws();
     match candidates(alloc, calls)? {
         Some(own) => search_plain(alloc, calls, declaration, &own, budget, watch),
-        None => search_other(alloc, transcript, declaration, calls, budget, watch),
+        None => {
+            let answered = search_unplain(alloc, transcript, declaration, calls, budget, watch);
+            or_refuted(alloc, calls, declaration, answered)
+        }
+    }
+}
+
+/// Looks for a witness of calls of which some aren't plain: where the first steps of a search find none, the lives of the objects propose turns
+/// before it begins again.
+fn search_unplain<W: Watch>(
+    alloc: Global,
+    transcript: &Transcript,
+    declaration: &Declaration,
+    calls: &[Call],
+    budget: u64,
+    watch: &mut W,
+) -> Result<Found, CheckFault>
+    requires declared { AreDeclared (declaration_of declaration.now) }
+    requires each { All (IsRecorded (transcript_of transcript.now)) (map call_of calls.now) }
+    ensures { AreRecorded (transcript_of transcript.now)
+        → AreCalls (transcript_of transcript.now) (map call_of calls.now)
+        → AreNotPlain (map call_of calls.now)
+        → Searches (transcript_of transcript.now) (declaration_of declaration.now) budget result }
+{
+    if budget > EARLY && !ends_early(alloc, declaration, calls)? {
+        if let Some(found) = search_by_turns(alloc, transcript, declaration, calls, true, budget)? {
+            return Ok(found);
+        }
+    }
+    search_other(alloc, transcript, declaration, calls, budget, watch)
+}
+
+/// Whether the first steps of a search find turns.
+fn ends_early(alloc: Global, declaration: &Declaration, calls: &[Call]) -> Result<bool, CheckFault>
+    requires declared { AreDeclared (declaration_of declaration.now) }
+    requires recorded { AreAllRecorded calls.now }
+    ensures { IfErr result (λ fault. fault ≡ CheckFault.Memory) }
+{
+    let rules = rules_of_declaration(alloc, declaration)?;
+    let mut ledger = open_ledger(alloc, declaration)?;
+    let tables = Tables::of(alloc, calls, declaration)?;
+    match find_turns(
+        alloc,
+        &mut ledger,
+        &rules,
+        &tables,
+        EARLY,
+        &mut Unwatched {},
+    ) {
+        Ok(guessed) => Ok(guessed.turns.is_some()),
+        Err(_) => Err(CheckFault::Memory),
     }
 }
 

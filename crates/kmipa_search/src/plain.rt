@@ -6,14 +6,11 @@ ghost use Rattle.kmipa_search.specs.Candidates.{AreNotPlain, AreOfCalls, IsNotPl
 ghost use Rattle.kmipa_search.specs.Guessing.{AreRecordedCalls, AreReadableOnes, IsReadableOne, IsRecordedCall};
 ghost use Rattle.kmipa_search.specs.Plain.{ArePlain, IsPlainStep};
 ghost use Rattle.kmipa_search.specs.Progress.{AllReadable};
-ghost use Rattle.kmipa_record.specs.Witnesses.{turn_of};
-ghost use Rattle.kmipa_check.specs.Plain.{bare_turn};
 
 use crate::candidate::Candidate;
 use crate::check_laws::check_laws;
 use kmipa_batch::is_unordered;
 use kmipa_check::{Call, needs_fill};
-use kmipa_record::Turn;
 use std::alloc::{AllocError, Global};
 
 /// The calls as a search takes them, where all are plain.
@@ -36,7 +33,7 @@ pub fn candidates<'b, 'a>(
 }
 
 /// The call as a search takes it, where it is plain.
-fn candidate_of<'b, 'a>(call: &'b Call<'a>) -> Option<Candidate<'b, 'a>>
+pub fn candidate_of<'b, 'a>(call: &'b Call<'a>) -> Option<Candidate<'b, 'a>>
     ensures { MatchOption result (IsNotPlain (call_of call.now))
         (λ own. IsPlainStep (call_of call.now) (candidate_step own)) }
 {
@@ -106,16 +103,4 @@ fn plain_one<'b, 'a>(call: &Candidate<'b, 'a>) -> Option<Candidate<'b, 'a>>
 {
     check_laws();
     candidate_of(call.call)
-}
-
-/// The turn that names a call, and gives nothing else.
-pub fn bare_turn(alloc: Global, call: i32) -> Turn
-    ensures { turn_of result ≡ bare_turn call }
-{
-    Turn {
-        call,
-        answer: None,
-        places: Vec::new(alloc),
-        fills: Vec::new(alloc),
-    }
 }

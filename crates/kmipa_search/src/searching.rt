@@ -16,14 +16,15 @@ ghost use Rattle.kmipa_search.specs.Confirming.{Confirms, IsTried, turns_at};
 
 use crate::accepted::{accepted_order, witness_at};
 use crate::by_lives::search_by_lives;
-use crate::by_object::search_by_object;
+use crate::by_object::{or_refuted, search_by_object};
+use crate::by_turns::search_by_turns;
 use crate::candidate::Candidate;
 use crate::check_laws::check_laws;
 use crate::forthright::forthright_order;
 use crate::found::Found;
 use crate::guessing::guess_order;
 use crate::order::{EARLY, find_order};
-use crate::plain::{all_plain, bare_turn, candidates, every_candidate};
+use crate::plain::{all_plain, candidates, every_candidate};
 use crate::watch::{Unwatched, Watch};
 use kmipa_check::{
     Call, CheckFault, Verdict, check, check_calls, open_ledger, read_calls, rules_of_declaration,
@@ -44,7 +45,10 @@ use std::alloc::Global;
 /// Where all calls are plain and the budget is enough for them, the order in which they are tried if each is possible is made first, without a
 /// ledger, and checked: mostly it is the one that is found, and the calls are taken once. Where it isn't, and the first 1,000 steps don't end the
 /// search, the lives of the objects propose an order: where a check accepts it, it is found with those steps and one more for each call.
-/// Where it doesn't, the objects are searched one by one: where one has no order of its own, it gives up with steps left.
+/// Where it doesn't, the objects are searched one by one: where one has no order of its own, it refutes the calls. So they are where a search of
+/// calls gives up that aren't all plain. Where the declaration has a tolerance no object is searched.
+/// Where some call waits for payloads, is open or has no order, and the first 1,000 steps find nothing, the lives propose turns as well: each
+/// payload as the objects stand at its own place, and with the identifier that a later answer of its batch shows.
 pub fn search(
     alloc: Global,
     transcript: &Transcript,
@@ -92,7 +96,10 @@ pub fn search_calls<W: Watch>(
     check_laws();
     match candidates(alloc, calls)? {
         Some(own) => search_plain(alloc, calls, declaration, &own, budget, watch),
-        None => search_waiting(alloc, transcript, declaration, calls, budget, watch),
+        None => {
+            let answered = search_waiting(alloc, transcript, declaration, calls, budget, watch);
+            or_refuted(alloc, calls, declaration, answered)
+        }
     }
 }
 
@@ -145,7 +152,7 @@ fn search_late(
     }
     match search_by_lives(alloc, calls, declaration, own, budget)? {
         Some(found) => Ok(Some(found)),
-        None => search_by_object(alloc, declaration, own, budget),
+        None => search_by_object(alloc, calls, declaration, budget),
     }
 }
 
@@ -230,6 +237,55 @@ fn search_step_by_step<W: Watch>(
 
 /// Looks for a witness of calls of which some aren't plain.
 fn search_waiting<W: Watch>(
+    alloc: Global,
+    transcript: &Transcript,
+    declaration: &Declaration,
+    calls: &[Call],
+    budget: u64,
+    watch: &mut W,
+) -> Result<Found, CheckFault>
+    requires declared { AreDeclared (declaration_of declaration.now) }
+    requires each { All (IsRecorded (transcript_of transcript.now)) (map call_of calls.now) }
+    ensures { AreRecorded (transcript_of transcript.now)
+        → AreCalls (transcript_of transcript.now) (map call_of calls.now) → AreNotPlain (map call_of calls.now)
+        → Searches (transcript_of transcript.now) (declaration_of declaration.now) budget result }
+{
+    if budget > EARLY && !waiting_ends_early(alloc, declaration, calls)? {
+        if let Some(found) = search_by_turns(
+            alloc,
+            transcript,
+            declaration,
+            calls,
+            false,
+            budget,
+        )? {
+            return Ok(found);
+        }
+    }
+    search_left_out(alloc, transcript, declaration, calls, budget, watch)
+}
+
+/// Whether the first steps of such a search find an order.
+fn waiting_ends_early(
+    alloc: Global,
+    declaration: &Declaration,
+    calls: &[Call],
+) -> Result<bool, CheckFault>
+    requires declared { AreDeclared (declaration_of declaration.now) }
+    requires each { (marks : List MarkOf) × All (IsRecorded marks) (map call_of calls.now) }
+    ensures { IfErr result (λ fault. fault ≡ CheckFault.Memory) }
+{
+    let own = every_candidate(alloc, calls)?;
+    let rules = rules_of_declaration(alloc, declaration)?;
+    let mut ledger = open_ledger(alloc, declaration)?;
+    match guess_order(alloc, &mut ledger, &rules, &own, EARLY, &mut Unwatched {}) {
+        Ok(guessed) => Ok(guessed.turns.is_some()),
+        Err(_) => Err(CheckFault::Memory),
+    }
+}
+
+/// The same where open calls are left out, and each payload has one guess.
+fn search_left_out<W: Watch>(
     alloc: Global,
     transcript: &Transcript,
     declaration: &Declaration,

@@ -1,10 +1,12 @@
-//! The objects that calls name, and the calls that may be about each. Nothing is promised of them: what is found of an object is judged over all
+//! The objects that plain calls name, and those of them that may be about each. Nothing is promised of them: what is found of an object is judged over all
 //! calls (`refutes`).
 
 use crate::candidate::Candidate;
+use crate::plain::candidate_of;
 use kmipa_attrs::{AttrSet, Filter};
+use kmipa_check::Call;
 use kmipa_msgs::{Answer, Ask, Asked, Payload, Status};
-use kmipa_parts::{about, held_after};
+use kmipa_parts::{about, held_after, may_touch};
 use std::alloc::{AllocError, Global};
 
 /// Of the Locates that ask for one name, and of those that ask for none, so many are looked at for an object.
@@ -23,31 +25,36 @@ pub struct Suspects<'a> {
     pub objects: Vec<Suspect<'a>>,
     /// The places of Locates that ask for no name: they may be about any object.
     nameless: Vec<usize>,
+    /// The places of the calls that aren't plain.
+    others: Vec<usize>,
 }
 
 /// What calls name, on the way.
 #[derive(Drop)]
-struct Namings<'c, 'a> {
+struct Namings<'b, 'a> {
     /// Objects, and the places of the calls that name them.
     objects: Vec<(&'a str, usize)>,
     /// The first names of new objects, and their identifiers.
-    names: Vec<(&'c str, &'a str)>,
+    names: Vec<(&'b str, &'a str)>,
     /// The first names that Locates ask for, and their places.
-    asked: Vec<(&'c str, usize)>,
+    asked: Vec<(&'b str, usize)>,
     /// The places of Locates that ask for no name.
     nameless: Vec<usize>,
+    /// The places of the calls that aren't plain.
+    others: Vec<usize>,
 }
 
 /// The objects that calls name.
 pub fn named_objects<'b, 'a>(
     alloc: Global,
-    calls: &[Candidate<'b, 'a>],
+    calls: &'b [Call<'a>],
 ) -> Result<Suspects<'a>, AllocError> {
     let mut namings = Namings {
         objects: Vec::new(alloc),
         names: Vec::new(alloc),
         asked: Vec::new(alloc),
         nameless: Vec::new(alloc),
+        others: Vec::new(alloc),
     };
     for (place, call) in calls.iter().enumerate() {
         namings.push_call(place, call)?;
@@ -57,6 +64,7 @@ pub fn named_objects<'b, 'a>(
         mut names,
         mut asked,
         nameless,
+        others,
     } = namings;
     names.sort()?;
     asked.sort()?;
@@ -64,10 +72,26 @@ pub fn named_objects<'b, 'a>(
     named.sort()?;
     let mut objects = grouped(alloc, &named)?;
     objects.sort_by(|x: &Suspect, y: &Suspect| x.places.len().cmp(&y.places.len()))?;
-    Ok(Suspects { objects, nameless })
+    Ok(Suspects {
+        objects,
+        nameless,
+        others,
+    })
 }
 
 impl<'a> Suspects<'a> {
+    /// Whether one of the calls that aren't plain may touch an object.
+    pub fn is_touched(&self, calls: &[Call], id: &str) -> bool {
+        for place in &self.others {
+            if let Some(call) = calls.get(*place) {
+                if may_touch(id, &call.request) {
+                    return true;
+                }
+            }
+        }
+        false
+    }
+
     /// The places of the calls that may be about an object, each once and in their order.
     pub fn places(&self, alloc: Global, object: &Suspect<'a>) -> Result<Vec<usize>, AllocError> {
         let mut all = Vec::from_slice(alloc, &object.places)?;
@@ -83,13 +107,17 @@ impl<'a> Suspects<'a> {
     }
 }
 
-impl<'c, 'a> Namings<'c, 'a> {
-    /// What a call names.
-    fn push_call<'b>(
-        &mut self,
-        place: usize,
-        call: &'c Candidate<'b, 'a>,
-    ) -> Result<(), AllocError> {
+impl<'b, 'a> Namings<'b, 'a> {
+    /// What a call names, where it is plain.
+    fn push_call(&mut self, place: usize, call: &'b Call<'a>) -> Result<(), AllocError> {
+        match candidate_of(call) {
+            Some(plain) => self.push_plain(place, &plain),
+            None => Ok(self.others.push(place)?),
+        }
+    }
+
+    /// What a plain call names.
+    fn push_plain(&mut self, place: usize, call: &Candidate<'b, 'a>) -> Result<(), AllocError> {
         let mut held = None;
         for (ask, answer) in call.request.items.iter().zip(call.response.items.iter()) {
             self.push_item(place, held, ask, answer)?;
@@ -103,8 +131,8 @@ impl<'c, 'a> Namings<'c, 'a> {
         &mut self,
         place: usize,
         held: Option<&'a str>,
-        ask: &'c Ask<'a>,
-        answer: &'c Answer<'a>,
+        ask: &'b Ask<'a>,
+        answer: &'b Answer<'a>,
     ) -> Result<(), AllocError> {
         if let Some(id) = about(held, ask, answer) {
             self.objects.push((id, place))?;
@@ -122,8 +150,8 @@ impl<'c, 'a> Namings<'c, 'a> {
     fn push_located(
         &mut self,
         place: usize,
-        filter: &'c Filter,
-        answer: &'c Answer<'a>,
+        filter: &'b Filter,
+        answer: &'b Answer<'a>,
     ) -> Result<(), AllocError> {
         if answer.status == Status::Failed {
             return Ok(());

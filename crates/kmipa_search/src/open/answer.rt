@@ -42,7 +42,8 @@ fn guessed_payload<'p>(ask: &Ask, id: &'p str) -> Option<Payload<'p>> {
     }
 }
 
-fn spelling_of(alloc: Global, item: &Item) -> Result<Option<Vec<u8>>, AllocError> {
+/// The bytes that spell an item, where some do.
+pub fn spelling_of(alloc: Global, item: &Item) -> Result<Option<Vec<u8>>, AllocError> {
     if spelled_len(item).is_none() {
         return Ok(None);
     }

@@ -50,12 +50,8 @@ fn turn_of<'b, 'a, L: Ledger>(
 ) -> Result<Turn, AllocError>
     ensures { IfOk result (λ turn. turn.call ≡ number) }
 {
-    let mut turn = Turn {
-        call: number,
-        answer: None,
-        places,
-        fills: Vec::new(alloc),
-    };
+    let mut turn = Turn::bare(alloc, number);
+    turn.places = places;
     match attempt.what {
         What::Ended(place) => {
             if let Some(own) = tables.own.get(place) {

@@ -3,8 +3,7 @@ use Rattle.std.specs.declared.alloc.Global.{Global}
 use Rattle.std.proofs.lemmas.List.{length-map}
 use Rattle.kmipa_record.specs.Declarations.{declaration_of}
 use Rattle.kmipa_record.specs.Transcripts.{transcript_of}
-use Rattle.kmipa_record.specs.Witnesses.{witness_of}
-use Rattle.kmipa_check.specs.Plain.{bare_turn}
+use Rattle.kmipa_record.specs.Witnesses.{bare_turn, witness_of}
 use Rattle.kmipa_search.specs.Candidates.{candidate_step}
 use Rattle.kmipa_search.specs.Confirming.{turns_at}
 use Rattle.kmipa_search.specs.Taken.{step_at}

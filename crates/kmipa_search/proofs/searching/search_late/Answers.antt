@@ -1,6 +1,4 @@
-use Rattle.std.proofs.Common.{map}
-use Rattle.kmipa_check.specs.Calls.{call_of}
 use Rattle.kmipa_search.proofs.searching.search_late.Goals as goal
 
 pub returns-in-None-clause-finds : goal.returns-in-None-clause-finds
-returns-in-None-clause-finds c = λ marks r are plain. c.search_by_object.ensures.finds marks (map call_of c.args.calls.now) r are plain
+returns-in-None-clause-finds c = λ marks r are plain. c.search_by_object.ensures.finds marks r are

@@ -1,13 +1,9 @@
-use Rattle.std.proofs.Common.{map}
 use Rattle.kmipa_record.specs.Transcripts.{transcript_of}
-use Rattle.kmipa_check.specs.Calls.{call_of}
-use Rattle.kmipa_search.proofs.GuessLemmas.{own_recorded}
+use Rattle.kmipa_search.proofs.DescentLemmas.{all_recorded}
 use Rattle.kmipa_search.proofs.searching.search_waiting.Goals as goal
 
-pub all_plain-requires : goal.all_plain-requires
-all_plain-requires g c =
-    own_recorded (transcript_of c.args.transcript.now) (map call_of c.args.calls.now) c.in_ok-own.own.items c.deref.result.now c.deref.ensures.value c.in_ok-own.ensures c.requires.each
+pub waiting_ends_early-requires-clause-each : goal.waiting_ends_early-requires-clause-each
+waiting_ends_early-requires-clause-each g c = (transcript_of c.args.transcript.now, c.requires.each)
 
-pub search_guessing-requires-clause-recorded : goal.search_guessing-requires-clause-recorded
-search_guessing-requires-clause-recorded g c =
-    own_recorded (transcript_of c.args.transcript.now) (map call_of c.args.calls.now) c.in_ok-own.own.items c.deref-in-None.result.now c.deref-in-None.ensures.value c.in_ok-own.ensures c.requires.each
+pub search_by_turns-requires-clause-recorded : goal.search_by_turns-requires-clause-recorded
+search_by_turns-requires-clause-recorded g c = all_recorded (transcript_of c.args.transcript.now) c.args.calls.now c.requires.each
