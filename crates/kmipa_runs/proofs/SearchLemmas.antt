@@ -18,7 +18,7 @@ use Rattle.kmipa_check.specs.declared.auditing.AuditFault.{AuditFault}
 use Rattle.kmipa_check.specs.declared.fault.CheckFault.{CheckFault}
 use Rattle.kmipa_search.specs.Found.{Finds}
 use Rattle.kmipa_search.specs.declared.found.Found.{Found}
-use Rattle.kmipa_search.specs.declared.found.Found.TheVariants.{Yes, GaveUp}
+use Rattle.kmipa_search.specs.declared.found.Found.TheVariants.{Yes, GaveUp, Refuted}
 use Rattle.kmipa_runs.specs.Lines.{PrintsFault}
 use Rattle.kmipa_runs.specs.Searches.{found_status, found_text, forced_text, AreSearched, AreUnsearched, Makes, PrintsSearch, SearchesRecords}
 use Rattle.kmipa_runs.specs.Statuses.{IsSilent}
@@ -101,6 +101,7 @@ done_is_accepted searched t d budget asked said lines made a (inl p) done = go s
   where
     go : (f : Found) → searched.found ≡ f → AreAccepted t d made
     go (GaveUp count) e = let clash : status.GaveUp ≡ status.Done = sym (ap found_status e) ∙ sym p.0 ∙ done in absurd cc
+    go (Refuted count object) e = let clash : status.GaveUp ≡ status.Done = sym (ap found_status e) ∙ sym p.0 ∙ done in absurd cc
     go (Yes witness count) e =
         let M : Found → Type 0 = λ f. Makes f made in
         let F : Found → Type 0 = λ f. Finds a.marks a.declared budget f in

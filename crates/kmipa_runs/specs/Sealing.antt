@@ -1,10 +1,11 @@
 -- What is told of the head of a sealed transcript.
-use Rattle.std.specs.Prelude.{◌≡◌, ℕ, List, [], ◌∷◌, codes, Option, Some, None, Ok}
-use Rattle.std.specs.Fmt.{signed_decimal}
+use Rattle.std.specs.Prelude.{◌≡◌, ℕ, List, [], ◌∷◌, codes, if◌then◌else◌, Option, Some, None, Ok}
+use Rattle.std.specs.Fmt.{decimal, signed_decimal}
 use Rattle.std.specs.List.{flat_map}
 use Rattle.std.specs.String.{string_bytes}
 use Rattle.hex.specs.Hex.{decode_sized, encode_lower}
 use Rattle.kmipa_record.specs.declared.head.Head.{Head}
+use Rattle.kmipa_record.specs.declared.torn.Torn.{Torn}
 use Rattle.kmipa_runs.specs.Lines.{line}
 use Rattle.kmipa_runs.specs.Shown.{escaped}
 
@@ -21,6 +22,15 @@ HasSeal (Some head) seal = head.seal ≡ seal
 abbrev pub head_line : Head → List ℕ
 head_line head = line (codes "sealed: " ∷ flat_map escaped (string_bytes head.label.recording) ∷ codes " segment " ∷ signed_decimal head.label.segment
     ∷ codes " head " ∷ encode_lower head.seal ∷ [])
+
+-- how the line of a torn transcript ends; where part of a record is left out, it says behind how many bytes
+abbrev pub torn_words : Torn → List (List ℕ)
+torn_words torn = if torn.cut then codes " torn after " ∷ decimal torn.length ∷ codes " bytes" ∷ [] else codes " torn" ∷ []
+
+-- the line of the head of a torn transcript
+abbrev pub torn_line : Head → Torn → List ℕ
+torn_line head torn = line (codes "sealed: " ∷ flat_map escaped (string_bytes head.label.recording) ∷ codes " segment " ∷ signed_decimal head.label.segment
+    ∷ codes " head " ∷ encode_lower head.seal ∷ torn_words torn)
 
 -- the line that stands in place of a verdict where another head is expected
 abbrev pub other_head_line : Option Head → List ℕ → List ℕ

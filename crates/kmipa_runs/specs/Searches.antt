@@ -15,7 +15,7 @@ use Rattle.kmipa_check.specs.declared.fault.CheckFault.TheVariants as check
 use Rattle.kmipa_search.specs.Forced.{TellsForced}
 use Rattle.kmipa_search.specs.Found.{Finds}
 use Rattle.kmipa_search.specs.declared.found.Found.{Found}
-use Rattle.kmipa_search.specs.declared.found.Found.TheVariants.{Yes, GaveUp}
+use Rattle.kmipa_search.specs.declared.found.Found.TheVariants.{Yes, GaveUp, Refuted}
 use Rattle.kmipa_runs.specs.Lines.{line, PrintsFault}
 use Rattle.kmipa_runs.specs.declared.searched.Looked.{Looked}
 use Rattle.kmipa_runs.specs.declared.searched.Searched.{Searched}
@@ -34,15 +34,18 @@ forced_text (Some false) = line (codes "forced: no" ∷ [])
 abbrev pub found_text : Found → List ℕ
 found_text (Yes witness count) = line (codes "yes: " ∷ decimal count ∷ codes " steps" ∷ [])
 found_text (GaveUp count) = line (codes "gave up: " ∷ decimal count ∷ codes " steps" ∷ [])
+found_text (Refuted count object) = line (codes "gave up: " ∷ decimal count ∷ codes " steps" ∷ [])
 
 abbrev pub found_status : Found → Status
 found_status (Yes witness count) = status.Done
 found_status (GaveUp count) = status.GaveUp
+found_status (Refuted count object) = status.GaveUp
 
 -- what is made of it: a file of the witness, or nothing
 abbrev pub Makes : Found → List ℕ → Type 0
 Makes (Yes witness count) made = IsWitness made (witness_of witness)
 Makes (GaveUp count) made = made ≡ []
+Makes (Refuted count object) made = made ≡ []
 
 -- ---- what is searched
 

@@ -42,7 +42,7 @@ pub use printer::{Printer, Unprinted};
 pub use quoting::{escaped_text, quoted_text};
 pub use reporting::{append, report};
 pub use runs::check_run;
-pub use sealing::{has_seal, head_line, other_head_line, other_head_object, read_seal};
+pub use sealing::{has_seal, head_line, other_head_line, other_head_object, read_seal, torn_line};
 pub use searched::Searched;
 pub use searching::{search_records, search_run, searched_lines, tell_searched, tell_witness};
 pub use showing::show_run;

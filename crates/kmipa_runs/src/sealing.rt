@@ -2,11 +2,11 @@
 
 ghost use Rattle.std.specs.Prelude.{◌≡◌, ◌↔◌, ℕ, List, IsTrue, IfOk, MatchOption, string_bytes};
 ghost use Rattle.hex.specs.Hex.{encode_lower};
-ghost use Rattle.kmipa_runs.specs.Sealing.{HasSeal, SpellsSeal, head_line, other_head_line, other_head_object};
+ghost use Rattle.kmipa_runs.specs.Sealing.{HasSeal, SpellsSeal, head_line, other_head_line, other_head_object, torn_line};
 
 use crate::quoting::escaped_text;
 use hex::FromHex;
-use kmipa_record::Head;
+use kmipa_record::{Head, Torn};
 use std::alloc::{AllocError, Global};
 
 /// The seal that 64 hexadecimal digits spell; `None` where a text is none.
@@ -37,6 +37,23 @@ pub fn head_line(alloc: Global, head: &Head) -> Result<String, AllocError>
     let segment = head.label.segment;
     let seal = seal_text(alloc, &head.seal)?;
     format!(in alloc; "sealed: {recording} segment {segment} head {seal}\n")
+}
+
+/// The line of the head of a torn transcript, up to which its records are whole.
+pub fn torn_line(alloc: Global, head: &Head, torn: Torn) -> Result<String, AllocError>
+    ensures { IfOk result (λ text. string_bytes text ≡ torn_line head.now torn) }
+{
+    let recording = escaped_text(alloc, head.label.recording.as_str())?;
+    let segment = head.label.segment;
+    let seal = seal_text(alloc, &head.seal)?;
+    let length = torn.length;
+    if torn.cut {
+        format!(in alloc;
+            "sealed: {recording} segment {segment} head {seal} torn after {length} bytes\n"
+        )
+    } else {
+        format!(in alloc; "sealed: {recording} segment {segment} head {seal} torn\n")
+    }
 }
 
 /// The line that stands in place of a verdict where another head is expected.

@@ -218,6 +218,7 @@ pub fn tell_searched(
     match &searched.found {
         Found::Yes(witness, _) => tell_witness(alloc, witness, &lines, out, made),
         Found::GaveUp(_) => append(Ok(lines), out),
+        Found::Refuted(_, _) => append(Ok(lines), out),
     }
 }
 
@@ -278,9 +279,18 @@ fn found_lines(alloc: Global, found: &Found) -> Result<Lines, AllocError>
             text: format!(in alloc; "yes: {count} steps\n")?,
             status: Status::Done,
         }),
-        Found::GaveUp(count) => Ok(Lines {
-            text: format!(in alloc; "gave up: {count} steps\n")?,
-            status: Status::GaveUp,
-        }),
+        Found::GaveUp(count) => gave_up_line(alloc, *count),
+        Found::Refuted(count, _) => gave_up_line(alloc, *count),
     }
+}
+
+/// The line of a search that gave up.
+fn gave_up_line(alloc: Global, count: u64) -> Result<Lines, AllocError>
+    ensures { IfOk result
+        (λ lines. (lines.status ≡ found_status (Found.GaveUp count)) × (string_bytes lines.text ≡ found_text (Found.GaveUp count))) }
+{
+    Ok(Lines {
+        text: format!(in alloc; "gave up: {count} steps\n")?,
+        status: Status::GaveUp,
+    })
 }
