@@ -1,12 +1,15 @@
 -- Calls that are plain, those that aren't, and what giving up says of them.
-use Rattle.std.proofs.Common.{◌≡◌, inl, inr, ℕ, ℤ, Bool, true, false, List, [], ◌∷◌, ◌++◌, Option, Some, None, Ok, ◌<◌, ◌≤◌, refl, sym, ap, subst, ◌∙◌}
-use Rattle.std.specs.Prelude.{not, is_some}
+use Rattle.std.proofs.Common.{◌≡◌, inl, inr, ℕ, ℤ, Bool, true, false, List, [], ◌∷◌, ◌++◌, Option, Some, None, Ok, ◌<◌, ◌≤◌, length, refl, sym, ap, subst, ◌∙◌}
+use Rattle.std.specs.Prelude.{not, is_some, String}
+use Rattle.std.specs.String.{string_bytes}
+use Rattle.std.specs.declared.alloc.Global.{Global}
 use Rattle.kmipa_record.specs.Marks.{AreRecorded, MarkOf}
 use Rattle.kmipa_record.specs.Declarations.{DeclarationOf}
 use Rattle.kmipa_msgs.specs.Messages.{ResponseOf}
 use Rattle.kmipa_batch.specs.Orders.{is_unordered}
 use Rattle.kmipa_check.specs.Calls.{CallOf, AreCalls}
 use Rattle.kmipa_check.specs.Deciding.{Decided}
+use Rattle.kmipa_check.specs.Grants.{GrantsOf, grants_declared}
 use Rattle.kmipa_check.specs.declared.fault.CheckFault.{CheckFault}
 use Rattle.kmipa_check.specs.declared.fault.CheckFault.TheVariants.{Memory}
 use Rattle.kmipa_check.specs.Steps.{StepOf, NeedsFill, step_with}
@@ -16,11 +19,11 @@ use Rattle.kmipa_search.specs.Found.{Finds, HasDecided, stopped, enough, one_by_
 use Rattle.kmipa_search.specs.Plain.{ArePlain, IsForced}
 use Rattle.kmipa_search.specs.declared.found.Found.{Found}
 use Rattle.kmipa_search.specs.Reached.{HaveSteps}
-use Rattle.kmipa_search.specs.declared.found.Found.TheVariants.{GaveUp}
+use Rattle.kmipa_search.specs.declared.found.Found.TheVariants.{GaveUp, Refuted}
 use Rattle.kmipa_search.specs.declared.stuck.Reached.{Reached}
 use Rattle.kmipa_runs.specs.Searches.{SearchStops, SearchesRecords}
 use Rattle.kmipa_runs.specs.declared.searched.Searched.{Searched}
-use Rattle.kmipa_telling.specs.Deciding.{AreUnplain, DecidesRecords, IsPlain, IsSaid, TellsDecision, TellsGivingUp, TellsPlace}
+use Rattle.kmipa_telling.specs.Deciding.{AreUnplain, DecidesRecords, IsDecidedUnder, IsPlain, IsOfPlain, IsSaid, TellsDecision, TellsGivingUp, TellsPlace}
 use Rattle.kmipa_telling.specs.declared.judged.Decision.{Decision}
 use Rattle.kmipa_telling.specs.declared.judged.Decision.TheVariants as decision
 
@@ -75,11 +78,22 @@ all_plain (c ∷ calls) numbers none (inr p) = let clash : c.number ∷ p.1.0 �
 -- ---- what giving up says
 
 -- of plain calls
-module _ (marks : List MarkOf) (calls : List CallOf) (budget count : ℕ) (are : AreCalls marks calls) (plain : (steps : List StepOf) × ArePlain calls steps) where
-  pub early_decides : count < budget → TellsDecision marks budget count (Ok decision.Decided)
-  early_decides left = (calls, are, stopped plain.0 plain.1 left)
+decided_said : (g : GrantsOf) (calls : List CallOf) (budget count : ℕ) (said : Decision) → IsDecidedUnder g said → HasDecided calls budget count → IsSaid g calls budget count said
+decided_said g calls budget count decision.Decided under decided = (decided, under)
+decided_said g calls budget count (decision.Tolerant seconds) under decided = (decided, under)
+decided_said g calls budget count (decision.UsedUp steps) under decided = absurd under
+decided_said g calls budget count (decision.NotPlain numbers) under decided = absurd under
+decided_said g calls budget count (decision.OneObject object) under decided = absurd under
 
-  pub unforced_undecided : AreRecorded marks → budget ≤ count → TellsForced marks (Ok false) → TellsDecision marks budget count (Ok (decision.UsedUp budget))
+module _ (marks : List MarkOf) (g : GrantsOf) (calls : List CallOf) (budget count : ℕ) (are : AreCalls marks calls) (plain : (steps : List StepOf) × ArePlain calls steps) where
+  pub early_decides : (said : Decision) → IsDecidedUnder g said → count < budget → TellsDecision marks g budget count (Ok said)
+  early_decides said under left = (calls, are, decided_said g calls budget count said under (stopped plain.0 plain.1 left))
+
+  pub forced_decides : (said : Decision) → IsDecidedUnder g said → AreRecorded marks → length calls ≤ budget → TellsForced marks (Ok true) → TellsDecision marks g budget count (Ok said)
+  forced_decides said under recorded few told =
+      (calls, are, decided_said g calls budget count said under (one_by_one (subst IsForced (same_calls marks told.0 calls recorded told.1 are) told.2) few))
+
+  pub unforced_undecided : AreRecorded marks → budget ≤ count → TellsForced marks (Ok false) → TellsDecision marks g budget count (Ok (decision.UsedUp budget))
   unforced_undecided recorded spent told =
       let same = same_calls marks calls told.0 recorded are told.1 in
       (calls, are, (plain, spent, λ f. absurd (told.2 (subst IsForced same f)), refl))
@@ -88,21 +102,25 @@ module _ (marks : List MarkOf) (calls : List CallOf) (budget count : ℕ) (are :
 decided_steps : (calls : List CallOf) (budget count : ℕ) → HasDecided calls budget count → (steps : List StepOf) × ArePlain calls steps
 decided_steps calls budget count decided = elim decided [ stopped s plain less ↦ (s, plain) | enough s plain less ↦ (s, plain) | one_by_one f few ↦ (f.steps, f.plain) ]
 
-pub decided_have_steps : (marks : List MarkOf) (budget count : ℕ) → TellsDecision marks budget count (Ok decision.Decided) → HaveSteps marks
-decided_have_steps marks budget count tells = (tells.0, tells.1, decided_steps tells.0 budget count tells.2)
+pub decided_have_steps : (marks : List MarkOf) (g : GrantsOf) (budget count : ℕ) → TellsDecision marks g budget count (Ok decision.Decided) → HaveSteps marks
+decided_have_steps marks g budget count tells = (tells.0, tells.1, decided_steps tells.0 budget count tells.2.0)
 
-pub spent_have_steps : (marks : List MarkOf) (budget count steps : ℕ) → TellsDecision marks budget count (Ok (decision.UsedUp steps)) → HaveSteps marks
-spent_have_steps marks budget count steps tells = (tells.0, tells.1, tells.2.0)
+pub tolerant_have_steps : (marks : List MarkOf) (g : GrantsOf) (budget count : ℕ) (seconds : ℤ) → TellsDecision marks g budget count (Ok (decision.Tolerant seconds)) → HaveSteps marks
+tolerant_have_steps marks g budget count seconds tells = (tells.0, tells.1, decided_steps tells.0 budget count tells.2.0)
+
+pub spent_have_steps : (marks : List MarkOf) (g : GrantsOf) (budget count steps : ℕ) → TellsDecision marks g budget count (Ok (decision.UsedUp steps)) → HaveSteps marks
+spent_have_steps marks g budget count steps tells = (tells.0, tells.1, tells.2.0)
 
 -- where it is said to be decided, no order explains the transcript
 decided_means : (marks : List MarkOf) (declared : DeclarationOf) (budget count : ℕ) (said : Decision) → AreRecorded marks → Finds marks declared budget (GaveUp count)
-    → TellsDecision marks budget count (Ok said) → TellsGivingUp marks declared budget (GaveUp count) (Some said)
+    → TellsDecision marks (grants_declared declared) budget count (Ok said) → TellsGivingUp marks declared budget (GaveUp count) (Some said)
 decided_means marks declared budget count said recorded finds tells = (
   tells,
   λ e.
-      let S : Decision → Type 0 = λ s. IsSaid tells.0 budget count s in
+      let S : Decision → Type 0 = λ s. IsSaid (grants_declared declared) tells.0 budget count s in
       let D : List CallOf → Type 0 = λ cs. HasDecided cs budget count in
-      finds.1.2 (subst D (same_calls marks tells.0 finds.1.0 recorded tells.1 finds.1.1) (subst S e tells.2)),
+      let decided = subst S e tells.2 in
+      finds.1.2 decided.1 (subst D (same_calls marks tells.0 finds.1.0 recorded tells.1 finds.1.1) decided.0),
 )
 
 -- ---- what is searched
@@ -112,10 +130,43 @@ pub memory_stops : (marks : List MarkOf) (fault : CheckFault) → fault ≡ Memo
 memory_stops marks fault is = let P : CheckFault → Type 0 = λ f. SearchStops marks f in subst P (sym is) tt
 
 pub given_up_told : (marks : List MarkOf) (declared : DeclarationOf) (budget : ℕ) (asked : Bool) (searched : Searched) → SearchesRecords marks declared budget asked (Ok searched)
-    → (count : ℕ) (said : Decision) (place : Option Reached) → AreRecorded marks → searched.found ≡ GaveUp count → TellsDecision marks budget count (Ok said)
+    → (count : ℕ) (said : Decision) (place : Option Reached) → AreRecorded marks → searched.found ≡ GaveUp count → TellsDecision marks (grants_declared declared) budget count (Ok said)
     → TellsPlace marks declared (Some said) place
     → DecidesRecords marks declared budget asked (Ok (record { searched = searched; decision = Some said; reached = place }))
 given_up_told marks declared budget asked searched searches count said place recorded is tells stuck =
     let F : Found → Type 0 = λ f. Finds marks declared budget f in
     let T : Found → Type 0 = λ f. TellsGivingUp marks declared budget f (Some said) in
     (searches, subst T (sym is) (decided_means marks declared budget count said recorded (subst F is searches.1) tells), stuck)
+
+-- ---- one object
+
+-- of plain calls none isn't
+no_unplain : (calls : List CallOf) (steps : List StepOf) (numbers : List ℤ) → ArePlain calls steps → AreUnplain calls numbers → numbers ≡ []
+no_unplain [] steps numbers plain u = u
+no_unplain (c ∷ calls) [] numbers plain u = absurd plain
+no_unplain (c ∷ calls) (s ∷ steps) numbers plain (inl p) = no_unplain calls steps numbers plain.1 p.1
+no_unplain (c ∷ calls) (s ∷ steps) numbers plain (inr p) = absurd (p.0 (plain.0.response, plain.0.plain))
+
+-- the deepest place is told where the calls are plain
+object_place : (marks : List MarkOf) (declared : DeclarationOf) (budget count : ℕ) (said : Decision) (object : String Global) (place : Option Reached) → AreRecorded marks → TellsDecision marks (grants_declared declared) budget count (Ok said)
+    → TellsPlace marks declared (Some said) place → TellsPlace marks declared (Some (decision.OneObject object)) place
+object_place marks declared budget count decision.Decided object (Some reached) recorded tells p = (decided_have_steps marks (grants_declared declared) budget count tells, p.1)
+object_place marks declared budget count decision.Decided object None recorded tells p = absurd (p tt)
+object_place marks declared budget count (decision.Tolerant seconds) object (Some reached) recorded tells p = (tolerant_have_steps marks (grants_declared declared) budget count seconds tells, p.1)
+object_place marks declared budget count (decision.Tolerant seconds) object None recorded tells p = absurd (p tt)
+object_place marks declared budget count (decision.UsedUp steps) object (Some reached) recorded tells p = (spent_have_steps marks (grants_declared declared) budget count steps tells, p.1)
+object_place marks declared budget count (decision.UsedUp steps) object None recorded tells p = absurd (p tt)
+object_place marks declared budget count (decision.NotPlain numbers) object (Some reached) recorded tells p = absurd p.0
+object_place marks declared budget count (decision.NotPlain numbers) object None recorded tells p = λ have.
+    let P : List CallOf → Type 0 = λ cs. ArePlain cs have.2.0 in
+    tells.2.1 (no_unplain tells.0 have.2.0 numbers.items (subst P (same_calls marks have.0 tells.0 recorded have.1 tells.1) have.2.1) tells.2.0)
+object_place marks declared budget count (decision.OneObject other) object place recorded tells p = absurd tells.2
+
+pub refuted_told : (marks : List MarkOf) (declared : DeclarationOf) (budget : ℕ) (asked : Bool) (searched : Searched) → SearchesRecords marks declared budget asked (Ok searched)
+    → (count : ℕ) (object named : String Global) (said : Decision) (place : Option Reached) → AreRecorded marks → searched.found ≡ Refuted count object → string_bytes named ≡ string_bytes object
+    → TellsDecision marks (grants_declared declared) budget count (Ok said) → TellsPlace marks declared (Some said) place
+    → DecidesRecords marks declared budget asked (Ok (record { searched = searched; decision = Some (decision.OneObject named); reached = place }))
+refuted_told marks declared budget asked searched searches count object named said place recorded is copied tells stuck =
+    let F : Found → Type 0 = λ f. Finds marks declared budget f in
+    let T : Found → Type 0 = λ f. TellsGivingUp marks declared budget f (Some (decision.OneObject named)) in
+    (searches, subst T (sym is) (copied, (subst F is searches.1).2), object_place marks declared budget count said named place recorded tells stuck)

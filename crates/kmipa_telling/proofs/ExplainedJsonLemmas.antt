@@ -1,5 +1,5 @@
 -- What is told in JSON of a check that says what its no means.
-use Rattle.std.proofs.Common.{◌≡◌, ◌⊎◌, inl, inr, Bool, List, ℕ, Result, Ok, Err, refl, sym, subst, ◌∙◌}
+use Rattle.std.proofs.Common.{◌≡◌, ◌⊎◌, inl, inr, Bool, List, ℕ, Option, Result, Ok, Err, refl, sym, subst, ◌∙◌}
 use Rattle.std.specs.Prelude.{IfOk, IsOkAnd, string_bytes}
 use Rattle.std.specs.declared.alloc.AllocError.{AllocError}
 use Rattle.kmipa_ttlv.specs.Input.{came_of}
@@ -52,37 +52,37 @@ told_yes marks turns verdict.Yes said before after tells done = refl
 told_yes marks turns (verdict.No r) said before after tells done = let clash : status.No ≡ status.Done = sym tells.0 ∙ done in absurd cc
 
 -- what is printed of what a check with explanations answers
-abbrev pub ToldCheck : {R : Type 0} → Input R → Input R → Input R → Status → List ℕ → Type 0
-ToldCheck t d w said lines = (outcome : Result Explained FaultTold) × ExplainsInputs t d w outcome × PrintsExplainedJson t d w outcome said lines
+abbrev pub ToldCheck : {R : Type 0} → Option ℕ → Input R → Input R → Input R → Status → List ℕ → Type 0
+ToldCheck torn t d w said lines = (outcome : Result Explained FaultTold) × ExplainsInputs t d w outcome × PrintsExplainedJson torn t d w outcome said lines
 
-explained_done : {R : Type 0} (t d w : Input R) (outcome : Result Explained FaultTold) (said : Status) (lines : List ℕ) → ExplainsInputs t d w outcome
-    → PrintsExplainedJson t d w outcome said lines → said ≡ status.Done → AreAccepted (came_of t) (came_of d) (came_of w) × AreEnded t d w
-explained_done t d w (Ok explained) said lines audits (known, told, knows, (verdict, tells, more), is) done =
+explained_done : {R : Type 0} (torn : Option ℕ) (t d w : Input R) (outcome : Result Explained FaultTold) (said : Status) (lines : List ℕ) → ExplainsInputs t d w outcome
+    → PrintsExplainedJson torn t d w outcome said lines → said ≡ status.Done → AreAccepted (came_of t) (came_of d) (came_of w) × AreEnded t d w
+explained_done torn t d w (Ok explained) said lines audits (known, told, knows, (verdict, tells, more), is) done =
     let yes = told_yes (transcript_of explained.records.transcript) (witness_of explained.records.witness) explained.verdict said _ verdict tells done in (
       yes_explained (came_of t) (came_of d) (came_of w) explained explained.verdict refl yes
           (audits.0 (came_of t) (came_of d) (came_of w) (itself t) (itself d) (itself w)),
       audits.1,
     )
-explained_done t d w (Err fault) said lines audits (known, told, knows, (without, tells, more), is) done = absurd (fault_not_done fault.fault (sym tells.0 ∙ done))
+explained_done torn t d w (Err fault) said lines audits (known, told, knows, (without, tells, more), is) done = absurd (fault_not_done fault.fault (sym tells.0 ∙ done))
 
-pub done_is_explained : {R : Type 0} (t d w : Input R) (said : Status) (lines : List ℕ) → ToldCheck t d w said lines ⊎ IsSilent said lines
+pub done_is_explained : {R : Type 0} (torn : Option ℕ) (t d w : Input R) (said : Status) (lines : List ℕ) → ToldCheck torn t d w said lines ⊎ IsSilent said lines
     → said ≡ status.Done → AreAccepted (came_of t) (came_of d) (came_of w) × AreEnded t d w
-done_is_explained t d w said lines (inl told) done = explained_done t d w told.0 said lines told.1 told.2 done
-done_is_explained t d w said lines (inr silent) done = absurd (silent_not_done said lines silent done)
+done_is_explained torn t d w said lines (inl told) done = explained_done torn t d w told.0 said lines told.1 told.2 done
+done_is_explained torn t d w said lines (inr silent) done = absurd (silent_not_done said lines silent done)
 
 -- ---- what is appended
 
-pub explained_printed : {R : Type 0} (made : Result Lines AllocError) (t d w : Input R) (outcome : Result Explained FaultTold) (said : Status) (lines : List ℕ)
-    → IfOk made (λ l. PrintsExplainedJson t d w outcome l.status (string_bytes l.text))
-    → IsOkAnd made (λ l. (said ≡ l.status) × (lines ≡ string_bytes l.text)) ⊎ IsSilent said lines → PrintsExplainedJson t d w outcome said lines ⊎ IsSilent said lines
-explained_printed made t d w outcome said lines told (inr silent) = inr silent
-explained_printed (Err e) t d w outcome said lines told (inl p) = absurd p
-explained_printed (Ok l) t d w outcome said lines told (inl p) =
-    let P : Status → Type 0 = λ s. PrintsExplainedJson t d w outcome s (string_bytes l.text) in
-    let Q : List ℕ → Type 0 = λ text. PrintsExplainedJson t d w outcome said text in
+pub explained_printed : {R : Type 0} (torn : Option ℕ) (made : Result Lines AllocError) (t d w : Input R) (outcome : Result Explained FaultTold) (said : Status) (lines : List ℕ)
+    → IfOk made (λ l. PrintsExplainedJson torn t d w outcome l.status (string_bytes l.text))
+    → IsOkAnd made (λ l. (said ≡ l.status) × (lines ≡ string_bytes l.text)) ⊎ IsSilent said lines → PrintsExplainedJson torn t d w outcome said lines ⊎ IsSilent said lines
+explained_printed torn made t d w outcome said lines told (inr silent) = inr silent
+explained_printed torn (Err e) t d w outcome said lines told (inl p) = absurd p
+explained_printed torn (Ok l) t d w outcome said lines told (inl p) =
+    let P : Status → Type 0 = λ s. PrintsExplainedJson torn t d w outcome s (string_bytes l.text) in
+    let Q : List ℕ → Type 0 = λ text. PrintsExplainedJson torn t d w outcome said text in
     inl (subst Q (sym p.1) (subst P (sym p.0) told))
 
-pub printed_explained : {R : Type 0} (t d w : Input R) (outcome : Result Explained FaultTold) (said : Status) (lines : List ℕ) → ExplainsInputs t d w outcome
-    → PrintsExplainedJson t d w outcome said lines ⊎ IsSilent said lines → ToldCheck t d w said lines ⊎ IsSilent said lines
-printed_explained t d w outcome said lines audits (inl prints) = inl (outcome, audits, prints)
-printed_explained t d w outcome said lines audits (inr silent) = inr silent
+pub printed_explained : {R : Type 0} (torn : Option ℕ) (t d w : Input R) (outcome : Result Explained FaultTold) (said : Status) (lines : List ℕ) → ExplainsInputs t d w outcome
+    → PrintsExplainedJson torn t d w outcome said lines ⊎ IsSilent said lines → ToldCheck torn t d w said lines ⊎ IsSilent said lines
+printed_explained torn t d w outcome said lines audits (inl prints) = inl (outcome, audits, prints)
+printed_explained torn t d w outcome said lines audits (inr silent) = inr silent

@@ -11,6 +11,7 @@ use Rattle.kmipa_record.specs.declared.fault.RecordKind.{RecordKind}
 use Rattle.kmipa_record.specs.declared.fault.RecordKind.TheVariants.{Ttlv, Device, Memory}
 use Rattle.std.proofs.lemmas.List.{append-nil}
 use Rattle.kmipa_check.specs.Audits.{AreAccepted, AreRecords, AreUnjudged, AuditFails, ReadingFails}
+use Rattle.kmipa_check.specs.Grants.{GrantsOf, grants_declared}
 use Rattle.kmipa_check.specs.Verdicts.{Checks}
 use Rattle.kmipa_check.specs.declared.auditing.AuditFault.TheVariants as audit
 use Rattle.kmipa_check.specs.declared.fault.CheckFault.{CheckFault}
@@ -126,30 +127,30 @@ alone said place text front more lines fits s f m e =
     let Q : List ℕ → Type 0 = λ x. FitsStatus place x in
     subst P (sym s) (subst Q (sym (e ∙ ap (λ (l : List ℕ). front ++ l) m ∙ append-nil front ∙ f)) fits)
 
-check_fits : (marks : List MarkOf) (turns : List TurnOf) (fault : CheckFault) (m : Option FaultMeaning) (said : Status) (front more lines : List ℕ) → IsCheckMeaning marks turns fault m → said ≡ check_status fault
+check_fits : (g : GrantsOf) (marks : List MarkOf) (turns : List TurnOf) (fault : CheckFault) (m : Option FaultMeaning) (said : Status) (front more lines : List ℕ) → IsCheckMeaning g marks turns fault m → said ≡ check_status fault
     → front ≡ check_text fault → PrintsFaultMeaning m more → lines ≡ front ++ more → FitsStatus said lines
-check_fits marks turns (check.Outside number side x) m said front more lines is s f tells e =
+check_fits g marks turns (check.Outside number side x) m said front more lines is s f tells e =
     let P : Status → Type 0 = λ y. FitsStatus y lines in
     subst P (sym s) (inl (ap (take (length (codes "outside: call "))) (e ∙ ap (λ (l : List ℕ). l ++ more) f)))
-check_fits marks turns (check.Witness w) m said front more lines is s f tells e =
+check_fits g marks turns (check.Witness w) m said front more lines is s f tells e =
     let P : Status → Type 0 = λ y. FitsStatus y lines in
     subst P (sym s) (inr (inl (ap (take (length (codes "witness: at "))) (e ∙ ap (λ (l : List ℕ). l ++ more) f))))
-check_fits marks turns check.Memory None said front more lines is s f tells e = alone said status.Failed [] front more lines (inr refl) s f tells e
-check_fits marks turns check.Memory (Some x) said front more lines is s f tells e = absurd is
+check_fits g marks turns check.Memory None said front more lines is s f tells e = alone said status.Failed [] front more lines (inr refl) s f tells e
+check_fits g marks turns check.Memory (Some x) said front more lines is s f tells e = absurd is
 
-fault_fits : (t w : List ℕ) (fault : AuditFault) (m : Option FaultMeaning) (said : Status) (front more lines : List ℕ) → IsAuditMeaning t w fault m → PrintsFault fault said front → PrintsFaultMeaning m more
+fault_fits : (t d w : List ℕ) (fault : AuditFault) (m : Option FaultMeaning) (said : Status) (front more lines : List ℕ) → IsAuditMeaning t d w fault m → PrintsFault fault said front → PrintsFaultMeaning m more
     → lines ≡ front ++ more → FitsStatus said lines
-fault_fits t w (audit.Transcript f) None said front more lines is prints tells e = alone said _ _ front more lines (record_fits (codes "transcript") f.offset f.kind) prints.0 prints.1 tells e
-fault_fits t w (audit.Declaration f) None said front more lines is prints tells e = alone said _ _ front more lines (record_fits (codes "declaration") f.offset f.kind) prints.0 prints.1 tells e
-fault_fits t w (audit.Witness f) None said front more lines is prints tells e = alone said _ _ front more lines (record_fits (codes "witness") f.offset f.kind) prints.0 prints.1 tells e
-fault_fits t w (audit.Transcript f) (Some x) said front more lines is prints tells e = absurd is
-fault_fits t w (audit.Declaration f) (Some x) said front more lines is prints tells e = absurd is
-fault_fits t w (audit.Witness f) (Some x) said front more lines is prints tells e = absurd is
-fault_fits t w (audit.Check f) m said front more lines is prints tells e = check_fits is.0 is.1 f m said front more lines is.4 prints.0 prints.1 tells e
+fault_fits t d w (audit.Transcript f) None said front more lines is prints tells e = alone said _ _ front more lines (record_fits (codes "transcript") f.offset f.kind) prints.0 prints.1 tells e
+fault_fits t d w (audit.Declaration f) None said front more lines is prints tells e = alone said _ _ front more lines (record_fits (codes "declaration") f.offset f.kind) prints.0 prints.1 tells e
+fault_fits t d w (audit.Witness f) None said front more lines is prints tells e = alone said _ _ front more lines (record_fits (codes "witness") f.offset f.kind) prints.0 prints.1 tells e
+fault_fits t d w (audit.Transcript f) (Some x) said front more lines is prints tells e = absurd is
+fault_fits t d w (audit.Declaration f) (Some x) said front more lines is prints tells e = absurd is
+fault_fits t d w (audit.Witness f) (Some x) said front more lines is prints tells e = absurd is
+fault_fits t d w (audit.Check f) m said front more lines is prints tells e = check_fits (grants_declared is.1) is.0 is.2 f m said front more lines is.6 prints.0 prints.1 tells e
 
-pub told_fits : (told : FaultTold) (t w : List ℕ) (said : Status) (lines : List ℕ) → IsAuditMeaning t w told.fault told.meaning → PrintsExplained (Err told) said lines ⊎ IsSilent said lines → FitsStatus said lines
-told_fits told t w said lines is (inl (front, more, prints, tells, e)) = fault_fits t w told.fault told.meaning said front more lines is prints tells e
-told_fits told t w said lines is (inr silent) =
+pub told_fits : (told : FaultTold) (t d w : List ℕ) (said : Status) (lines : List ℕ) → IsAuditMeaning t d w told.fault told.meaning → PrintsExplained (Err told) said lines ⊎ IsSilent said lines → FitsStatus said lines
+told_fits told t d w said lines is (inl (front, more, prints, tells, e)) = fault_fits t d w told.fault told.meaning said front more lines is prints tells e
+told_fits told t d w said lines is (inr silent) =
     let P : Status → Type 0 = λ s. FitsStatus s lines in
     subst P (sym silent.0) (inr silent.1)
 
@@ -168,7 +169,7 @@ module _ (records : AuditRecords) (t d w : List ℕ) (r : AreRecords records t d
 
   -- memory ran out
   pub bare_memory : (ft fd fw : Bool) → AuditsExplained t d w ft fd fw (Err (bare_fault (audit.Check check.Memory)))
-  bare_memory ft fd fw = (unjudged check.Memory tt, (transcript_of records.transcript, witness_of records.witness, r.transcript, r.witness, tt))
+  bare_memory ft fd fw = (unjudged check.Memory tt, (transcript_of records.transcript, declaration_of records.declaration, witness_of records.witness, r.transcript, r.declaration, r.witness, tt))
 
   pub memory_audited : (ft fd fw : Bool) (fault : CheckFault) (told : FaultTold) → fault ≡ check.Memory → told ≡ bare_fault (audit.Check fault) → AuditsExplained t d w ft fd fw (Err told)
   memory_audited ft fd fw fault told is bare =
@@ -176,16 +177,16 @@ module _ (records : AuditRecords) (t d w : List ℕ) (r : AreRecords records t d
       subst P (sym (bare ∙ ap (λ (f : CheckFault). bare_fault (audit.Check f)) is)) (bare_memory ft fd fw)
 
   pub fault_audited : (ft fd fw : Bool) (fault : CheckFault) (told : FaultTold) → Checks (transcript_of records.transcript) (declaration_of records.declaration) (witness_of records.witness) (Err fault)
-      → IsCheckToldOf (transcript_of records.transcript) (witness_of records.witness) fault told → AuditsExplained t d w ft fd fw (Err told)
+      → IsCheckToldOf (grants_declared (declaration_of records.declaration)) (transcript_of records.transcript) (witness_of records.witness) fault told → AuditsExplained t d w ft fd fw (Err told)
   fault_audited ft fd fw fault told checks (inl is) =
-      let P : AuditFault → Type 0 = λ f. AuditFails t d w ft fd fw f × IsAuditMeaning t w f told.meaning in
-      subst P (sym is.0) (unjudged fault checks, (transcript_of records.transcript, witness_of records.witness, r.transcript, r.witness, is.1))
+      let P : AuditFault → Type 0 = λ f. AuditFails t d w ft fd fw f × IsAuditMeaning t d w f told.meaning in
+      subst P (sym is.0) (unjudged fault checks, (transcript_of records.transcript, declaration_of records.declaration, witness_of records.witness, r.transcript, r.declaration, r.witness, is.1))
   fault_audited ft fd fw fault told checks (inr is) =
       let P : FaultTold → Type 0 = λ x. AuditsExplained t d w ft fd fw (Err x) in
       subst P (sym is) (bare_memory ft fd fw)
 
 -- the fault of a check, where it is of a message or of the witness
-pub fault_of : (marks : List MarkOf) (declared : DeclarationOf) (turns : List TurnOf) (fault : CheckFault) → Checks marks declared turns (Err fault) → IsCheckFaultOf marks turns fault
+pub fault_of : (marks : List MarkOf) (declared : DeclarationOf) (turns : List TurnOf) (fault : CheckFault) → Checks marks declared turns (Err fault) → IsCheckFaultOf (grants_declared declared) marks turns fault
 fault_of marks declared turns (check.Outside number side o) h = h
 fault_of marks declared turns (check.Witness w) h = h
 fault_of marks declared turns check.Memory h = tt
@@ -203,13 +204,13 @@ told_not_done told said lines (inl (front, more, prints, tells, e)) done = fault
 told_not_done told said lines (inr silent) done = let clash : status.Failed ≡ status.Done = sym silent.0 ∙ done in absurd cc
 
 -- a fault of a message, and what it means, is told so of a check
-pub message_fault : (marks : List MarkOf) (turns : List TurnOf) (fault : CheckFault) → ((w : WitnessFault) → fault ≡ check.Witness w → ⊥) → IsCheckFaultOf marks turns fault → IsFaultOf marks fault
-message_fault marks turns (check.Outside number side o) apart h = h
-message_fault marks turns (check.Witness w) apart h = absurd (apart w refl)
-message_fault marks turns check.Memory apart h = h
+pub message_fault : (g : GrantsOf) (marks : List MarkOf) (turns : List TurnOf) (fault : CheckFault) → ((w : WitnessFault) → fault ≡ check.Witness w → ⊥) → IsCheckFaultOf g marks turns fault → IsFaultOf marks fault
+message_fault g marks turns (check.Outside number side o) apart h = h
+message_fault g marks turns (check.Witness w) apart h = absurd (apart w refl)
+message_fault g marks turns check.Memory apart h = h
 
-pub message_told : (marks : List MarkOf) (turns : List TurnOf) (fault : CheckFault) (told : FaultTold) → ((w : WitnessFault) → fault ≡ check.Witness w → ⊥) → IsFaultToldOf marks fault told
-    → IsCheckToldOf marks turns fault told
-message_told marks turns (check.Outside number side o) told apart h = h
-message_told marks turns (check.Witness w) told apart h = absurd (apart w refl)
-message_told marks turns check.Memory told apart h = h
+pub message_told : (g : GrantsOf) (marks : List MarkOf) (turns : List TurnOf) (fault : CheckFault) (told : FaultTold) → ((w : WitnessFault) → fault ≡ check.Witness w → ⊥) → IsFaultToldOf marks fault told
+    → IsCheckToldOf g marks turns fault told
+message_told g marks turns (check.Outside number side o) told apart h = h
+message_told g marks turns (check.Witness w) told apart h = absurd (apart w refl)
+message_told g marks turns check.Memory told apart h = h

@@ -1,5 +1,5 @@
 -- What is told in JSON of accepted files.
-use Rattle.std.proofs.Common.{◌≡◌, ◌⊎◌, inl, inr, List, ℕ, Result, Ok, Err, refl, sym, subst, ◌∙◌}
+use Rattle.std.proofs.Common.{◌≡◌, ◌⊎◌, inl, inr, List, ℕ, Option, Result, Ok, Err, refl, sym, subst, ◌∙◌}
 use Rattle.std.specs.Prelude.{IfOk, IsOkAnd, string_bytes}
 use Rattle.std.specs.declared.alloc.AllocError.{AllocError}
 use Rattle.kmipa_ttlv.specs.Input.{came_of}
@@ -75,36 +75,36 @@ yes_told audited said before after verdict.Yes is tells done = is
 yes_told audited said before after (verdict.No r) is tells done = let clash : status.No ≡ status.Done = sym tells.0 ∙ done in absurd cc
 
 -- what is printed of what an audit answers
-abbrev pub ToldAudit : {R : Type 0} → Input R → Input R → Input R → Status → List ℕ → Type 0
-ToldAudit t d w said lines = (outcome : Result Audited AuditFault) × AuditsInputs t d w outcome × PrintsJson t d w outcome said lines
+abbrev pub ToldAudit : {R : Type 0} → Option ℕ → Input R → Input R → Input R → Status → List ℕ → Type 0
+ToldAudit torn t d w said lines = (outcome : Result Audited AuditFault) × AuditsInputs t d w outcome × PrintsJson torn t d w outcome said lines
 
-judged_done : {R : Type 0} (t d w : Input R) (outcome : Result Audited AuditFault) (said : Status) (lines : List ℕ) → AuditsInputs t d w outcome
-    → PrintsJson t d w outcome said lines → said ≡ status.Done → AreAccepted (came_of t) (came_of d) (came_of w) × AreEnded t d w
-judged_done t d w (Ok audited) said lines audits (known, told, knows, tells, is) done = (
+judged_done : {R : Type 0} (torn : Option ℕ) (t d w : Input R) (outcome : Result Audited AuditFault) (said : Status) (lines : List ℕ) → AuditsInputs t d w outcome
+    → PrintsJson torn t d w outcome said lines → said ≡ status.Done → AreAccepted (came_of t) (came_of d) (came_of w) × AreEnded t d w
+judged_done torn t d w (Ok audited) said lines audits (known, told, knows, tells, is) done = (
   yes_accepted (came_of t) (came_of d) (came_of w) audited (yes_told audited said _ told audited.verdict refl tells done)
       (audits.0 (came_of t) (came_of d) (came_of w) (itself t) (itself d) (itself w)),
   audits.1,
 )
-judged_done t d w (Err fault) said lines audits (known, told, knows, tells, is) done = absurd (fault_not_done fault (sym tells.0 ∙ done))
+judged_done torn t d w (Err fault) said lines audits (known, told, knows, tells, is) done = absurd (fault_not_done fault (sym tells.0 ∙ done))
 
-pub done_is_judged : {R : Type 0} (t d w : Input R) (said : Status) (lines : List ℕ) → ToldAudit t d w said lines ⊎ IsSilent said lines → said ≡ status.Done
+pub done_is_judged : {R : Type 0} (torn : Option ℕ) (t d w : Input R) (said : Status) (lines : List ℕ) → ToldAudit torn t d w said lines ⊎ IsSilent said lines → said ≡ status.Done
     → AreAccepted (came_of t) (came_of d) (came_of w) × AreEnded t d w
-done_is_judged t d w said lines (inl told) done = judged_done t d w told.0 said lines told.1 told.2 done
-done_is_judged t d w said lines (inr silent) done = absurd (silent_not_done said lines silent done)
+done_is_judged torn t d w said lines (inl told) done = judged_done torn t d w told.0 said lines told.1 told.2 done
+done_is_judged torn t d w said lines (inr silent) done = absurd (silent_not_done said lines silent done)
 
 -- ---- what is appended
 
-pub json_reported : {R : Type 0} (made : Result Lines AllocError) (t d w : Input R) (outcome : Result Audited AuditFault) (said : Status) (lines : List ℕ)
-    → IfOk made (λ l. PrintsJson t d w outcome l.status (string_bytes l.text))
-    → IsOkAnd made (λ l. (said ≡ l.status) × (lines ≡ string_bytes l.text)) ⊎ IsSilent said lines → PrintsJson t d w outcome said lines ⊎ IsSilent said lines
-json_reported made t d w outcome said lines told (inr silent) = inr silent
-json_reported (Err e) t d w outcome said lines told (inl p) = absurd p
-json_reported (Ok l) t d w outcome said lines told (inl p) =
-    let P : Status → Type 0 = λ s. PrintsJson t d w outcome s (string_bytes l.text) in
-    let Q : List ℕ → Type 0 = λ text. PrintsJson t d w outcome said text in
+pub json_reported : {R : Type 0} (torn : Option ℕ) (made : Result Lines AllocError) (t d w : Input R) (outcome : Result Audited AuditFault) (said : Status) (lines : List ℕ)
+    → IfOk made (λ l. PrintsJson torn t d w outcome l.status (string_bytes l.text))
+    → IsOkAnd made (λ l. (said ≡ l.status) × (lines ≡ string_bytes l.text)) ⊎ IsSilent said lines → PrintsJson torn t d w outcome said lines ⊎ IsSilent said lines
+json_reported torn made t d w outcome said lines told (inr silent) = inr silent
+json_reported torn (Err e) t d w outcome said lines told (inl p) = absurd p
+json_reported torn (Ok l) t d w outcome said lines told (inl p) =
+    let P : Status → Type 0 = λ s. PrintsJson torn t d w outcome s (string_bytes l.text) in
+    let Q : List ℕ → Type 0 = λ text. PrintsJson torn t d w outcome said text in
     inl (subst Q (sym p.1) (subst P (sym p.0) told))
 
-pub printed_check : {R : Type 0} (t d w : Input R) (outcome : Result Audited AuditFault) (said : Status) (lines : List ℕ) → AuditsInputs t d w outcome
-    → PrintsJson t d w outcome said lines ⊎ IsSilent said lines → ToldAudit t d w said lines ⊎ IsSilent said lines
-printed_check t d w outcome said lines audits (inl prints) = inl (outcome, audits, prints)
-printed_check t d w outcome said lines audits (inr silent) = inr silent
+pub printed_check : {R : Type 0} (torn : Option ℕ) (t d w : Input R) (outcome : Result Audited AuditFault) (said : Status) (lines : List ℕ) → AuditsInputs t d w outcome
+    → PrintsJson torn t d w outcome said lines ⊎ IsSilent said lines → ToldAudit torn t d w said lines ⊎ IsSilent said lines
+printed_check torn t d w outcome said lines audits (inl prints) = inl (outcome, audits, prints)
+printed_check torn t d w outcome said lines audits (inr silent) = inr silent

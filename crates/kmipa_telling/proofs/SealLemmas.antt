@@ -78,20 +78,20 @@ known_as bytes said head judged is known =
     let P : Option Head → Type 0 = λ h. Known bytes h in
     knows bytes said head (subst P (sym is) known)
 
-pub audit_knows : {R : Type 0} (t d w : Input R) (outcome : Result Audited AuditFault) (said : Status) (lines : List ℕ) (head : Option Head) → head ≡ audit_head outcome
-    → KnowsJudged outcome (came_of t) (audit_head outcome) → PrintsJson t d w outcome said lines ⊎ IsSilent said lines → KnowsSeals (came_of t) said head
-audit_knows t d w (Ok audited) said lines head is known reported = known_as (came_of t) said head audited.transcript.head is known
-audit_knows t d w (Err fault) said lines head is known (inl (k, told, judged, tells, e)) = fault_knows (came_of t) fault said head tells.0
-audit_knows t d w (Err fault) said lines head is known (inr silent) = silent_knows (came_of t) said lines head silent
+pub audit_knows : {R : Type 0} (torn : Option ℕ) (t d w : Input R) (outcome : Result Audited AuditFault) (said : Status) (lines : List ℕ) (head : Option Head) → head ≡ audit_head outcome
+    → KnowsJudged outcome (came_of t) (audit_head outcome) → PrintsJson torn t d w outcome said lines ⊎ IsSilent said lines → KnowsSeals (came_of t) said head
+audit_knows torn t d w (Ok audited) said lines head is known reported = known_as (came_of t) said head audited.transcript.head is known
+audit_knows torn t d w (Err fault) said lines head is known (inl (k, told, judged, tells, e)) = fault_knows (came_of t) fault said head tells.0
+audit_knows torn t d w (Err fault) said lines head is known (inr silent) = silent_knows (came_of t) said lines head silent
 
-pub check_knows : {R : Type 0} (t d w : Input R) (outcome : Result Explained FaultTold) (said : Status) (lines : List ℕ) (head : Option Head) → head ≡ explained_head outcome
-    → KnowsJudged outcome (came_of t) (explained_head outcome) → PrintsExplainedJson t d w outcome said lines ⊎ IsSilent said lines → KnowsSeals (came_of t) said head
-check_knows t d w (Ok explained) said lines head is known reported = known_as (came_of t) said head explained.records.transcript.head is known
-check_knows t d w (Err fault) said lines head is known (inl (k, told, judged, (without, tells, more), e)) = fault_knows (came_of t) fault.fault said head tells.0
-check_knows t d w (Err fault) said lines head is known (inr silent) = silent_knows (came_of t) said lines head silent
+pub check_knows : {R : Type 0} (torn : Option ℕ) (t d w : Input R) (outcome : Result Explained FaultTold) (said : Status) (lines : List ℕ) (head : Option Head) → head ≡ explained_head outcome
+    → KnowsJudged outcome (came_of t) (explained_head outcome) → PrintsExplainedJson torn t d w outcome said lines ⊎ IsSilent said lines → KnowsSeals (came_of t) said head
+check_knows torn t d w (Ok explained) said lines head is known reported = known_as (came_of t) said head explained.records.transcript.head is known
+check_knows torn t d w (Err fault) said lines head is known (inl (k, told, judged, (without, tells, more), e)) = fault_knows (came_of t) fault.fault said head tells.0
+check_knows torn t d w (Err fault) said lines head is known (inr silent) = silent_knows (came_of t) said lines head silent
 
-pub search_knows : {R : Type 0} (t d : Input R) (outcome : Result Judged FaultTold) (said : Status) (lines made : List ℕ) (head : Option Head)
-    → KnowsJudged outcome (came_of t) head → PrintsJsonSearch t d outcome said lines made ⊎ (IsSilent said lines × (made ≡ [])) → KnowsSeals (came_of t) said head
-search_knows t d (Ok judged) said lines made head known reported = knows (came_of t) said head known
-search_knows t d (Err fault) said lines made head known (inl (none, (k, told, judged, (without, tells, more), e))) = fault_knows (came_of t) fault.fault said head tells.0
-search_knows t d (Err fault) said lines made head known (inr silent) = silent_knows (came_of t) said lines head silent.0
+pub search_knows : {R : Type 0} (torn : Option ℕ) (t d : Input R) (outcome : Result Judged FaultTold) (said : Status) (lines made : List ℕ) (head : Option Head)
+    → KnowsJudged outcome (came_of t) head → PrintsJsonSearch torn t d outcome said lines made ⊎ (IsSilent said lines × (made ≡ [])) → KnowsSeals (came_of t) said head
+search_knows torn t d (Ok judged) said lines made head known reported = knows (came_of t) said head known
+search_knows torn t d (Err fault) said lines made head known (inl (none, (k, told, judged, (without, tells, more), e))) = fault_knows (came_of t) fault.fault said head tells.0
+search_knows torn t d (Err fault) said lines made head known (inr silent) = silent_knows (came_of t) said lines head silent.0

@@ -1,10 +1,13 @@
 -- What a search says by giving up: that no order explains the transcript, or nothing, and then why.
-use Rattle.std.specs.Prelude.{◌≡◌, ◌≢◌, ◌<◌, ◌≤◌, ◌⊎◌, ℕ, ℤ, List, [], ◌∷◌, length, Bool, Option, Some, None, Result, Ok, Err}
+use Rattle.std.specs.Prelude.{◌≡◌, ◌≢◌, ◌<◌, ◌≤◌, ◌⊎◌, ℕ, ℤ, List, [], ◌∷◌, length, Bool, Option, Some, None, Result, Ok, Err, String}
+use Rattle.std.specs.String.{string_bytes}
+use Rattle.std.specs.declared.alloc.Global.{Global}
 use Rattle.kmipa_msgs.specs.Messages.{ResponseOf}
 use Rattle.kmipa_record.specs.Marks.{MarkOf}
 use Rattle.kmipa_record.specs.Declarations.{DeclarationOf, IsDeclaration}
 use Rattle.kmipa_record.specs.Transcripts.{IsTranscript}
 use Rattle.kmipa_check.specs.Calls.{CallOf, AreCalls}
+use Rattle.kmipa_check.specs.Grants.{GrantsNothing, GrantsOf, grants_declared}
 use Rattle.kmipa_check.specs.Plain.{IsPlainCall}
 use Rattle.kmipa_check.specs.Runs.{IsExplained}
 use Rattle.kmipa_check.specs.Steps.{StepOf}
@@ -12,9 +15,9 @@ use Rattle.kmipa_check.specs.declared.fault.CheckFault.{CheckFault}
 use Rattle.kmipa_check.specs.declared.fault.CheckFault.TheVariants.{Memory}
 use Rattle.kmipa_search.specs.Found.{HasDecided}
 use Rattle.kmipa_search.specs.Plain.{ArePlain, IsForced}
-use Rattle.kmipa_search.specs.Reached.{TellsReached}
+use Rattle.kmipa_search.specs.Reached.{HaveSteps, TellsReached}
 use Rattle.kmipa_search.specs.declared.found.Found.{Found}
-use Rattle.kmipa_search.specs.declared.found.Found.TheVariants.{Yes, GaveUp}
+use Rattle.kmipa_search.specs.declared.found.Found.TheVariants.{Yes, GaveUp, Refuted}
 use Rattle.kmipa_search.specs.declared.stuck.Reached.{Reached}
 use Rattle.kmipa_runs.specs.Searches.{SearchFails, SearchStops, SearchesRecords}
 use Rattle.kmipa_telling.specs.FaultsTold.{IsSearchMeaning}
@@ -37,39 +40,63 @@ AreUnplain (c ∷ calls) numbers = (IsPlain c × AreUnplain calls numbers)
 
 -- ---- what is said
 
--- What is said of calls that were given up after so many steps of a budget: that the search has decided; or that it hasn't, since the calls are
--- plain and no steps were left, too few even where the calls are forced, or since these aren't plain.
-abbrev pub IsSaid : List CallOf → ℕ → ℕ → Decision → Type 0
-IsSaid calls budget count decision.Decided = HasDecided calls budget count
-IsSaid calls budget count (decision.UsedUp steps) = ((plain : List StepOf) × ArePlain calls plain) × (budget ≤ count)
-    × (IsForced calls → budget < length calls) × (steps ≡ budget)
-IsSaid calls budget count (decision.NotPlain numbers) = AreUnplain calls numbers.items × (numbers.items ≢ [])
+-- each order was tried at the stamps: that is decided where moments are stamps; else it is said how far they may be from them
+abbrev pub IsDecidedUnder : GrantsOf → Decision → Type 0
+IsDecidedUnder g decision.Decided = GrantsNothing g
+IsDecidedUnder g (decision.Tolerant seconds) = (seconds ≡ g.tolerance) × ¬ (GrantsNothing g)
+IsDecidedUnder g (decision.UsedUp steps) = ⊥
+IsDecidedUnder g (decision.NotPlain numbers) = ⊥
+IsDecidedUnder g (decision.OneObject object) = ⊥
 
--- what giving up says of a transcript with these marks
-abbrev pub TellsDecision : List MarkOf → ℕ → ℕ → Result Decision CheckFault → Type 0
-TellsDecision marks budget count (Ok said) = (calls : List CallOf) × AreCalls marks calls × IsSaid calls budget count said
-TellsDecision marks budget count (Err fault) = SearchStops marks fault
+-- What is said of calls that were given up after so many steps of a budget: that the search has decided; or that it hasn't, since the calls are
+-- plain and no steps were left, too few even where the calls are forced, or since these aren't plain; or that it had, were moments stamps. Of one
+-- object nothing is said.
+abbrev pub IsSaid : GrantsOf → List CallOf → ℕ → ℕ → Decision → Type 0
+IsSaid g calls budget count decision.Decided = HasDecided calls budget count × IsDecidedUnder g decision.Decided
+IsSaid g calls budget count (decision.Tolerant seconds) = HasDecided calls budget count × IsDecidedUnder g (decision.Tolerant seconds)
+IsSaid g calls budget count (decision.UsedUp steps) = ((plain : List StepOf) × ArePlain calls plain) × (budget ≤ count)
+    × (IsForced calls → budget < length calls) × (steps ≡ budget)
+IsSaid g calls budget count (decision.NotPlain numbers) = AreUnplain calls numbers.items × (numbers.items ≢ [])
+IsSaid g calls budget count (decision.OneObject object) = ⊥
+
+-- what giving up says of a transcript with these marks, under a declaration that grants this
+abbrev pub TellsDecision : List MarkOf → GrantsOf → ℕ → ℕ → Result Decision CheckFault → Type 0
+TellsDecision marks g budget count (Ok said) = (calls : List CallOf) × AreCalls marks calls × IsSaid g calls budget count said
+TellsDecision marks g budget count (Err fault) = SearchStops marks fault
 
 -- ---- what is searched
 
--- Of a yes nothing is said. Of a giving up something is; and where it is said to be decided, no order explains the transcript.
+-- it is said that one object refutes the transcript, which has this identifier
+abbrev pub TellsObject : String Global → Option Decision → Type 0
+TellsObject object None = ⊥
+TellsObject object (Some decision.Decided) = ⊥
+TellsObject object (Some (decision.UsedUp steps)) = ⊥
+TellsObject object (Some (decision.NotPlain numbers)) = ⊥
+TellsObject object (Some (decision.Tolerant seconds)) = ⊥
+TellsObject object (Some (decision.OneObject named)) = string_bytes named ≡ string_bytes object
+
+-- Of a yes nothing is said. Of a giving up something is; and where it is said to be decided, no order explains the transcript. Where one object
+-- refutes the transcript, that is said, and no order explains it.
 abbrev pub TellsGivingUp : List MarkOf → DeclarationOf → ℕ → Found → Option Decision → Type 0
 TellsGivingUp marks declared budget (Yes witness count) said = said ≡ None
 TellsGivingUp marks declared budget (GaveUp count) None = ⊥
-TellsGivingUp marks declared budget (GaveUp count) (Some said) = TellsDecision marks budget count (Ok said)
+TellsGivingUp marks declared budget (GaveUp count) (Some said) = TellsDecision marks (grants_declared declared) budget count (Ok said)
     × (said ≡ decision.Decided → IsExplained marks declared → ⊥)
+TellsGivingUp marks declared budget (Refuted count object) said = TellsObject object said × (IsExplained marks declared → ⊥)
 
 -- it is said of calls that are plain
-abbrev pub IsOfPlain : Option Decision → Type 0
-IsOfPlain (Some decision.Decided) = Unit {0}
-IsOfPlain (Some (decision.UsedUp steps)) = Unit {0}
-IsOfPlain (Some (decision.NotPlain numbers)) = ⊥
-IsOfPlain None = ⊥
+abbrev pub IsOfPlain : List MarkOf → Option Decision → Type 0
+IsOfPlain marks (Some decision.Decided) = Unit {0}
+IsOfPlain marks (Some (decision.UsedUp steps)) = Unit {0}
+IsOfPlain marks (Some (decision.NotPlain numbers)) = ⊥
+IsOfPlain marks (Some (decision.Tolerant seconds)) = Unit {0}
+IsOfPlain marks (Some (decision.OneObject object)) = HaveSteps marks
+IsOfPlain marks None = ⊥
 
 -- where it is, a place is told, and of others none
 abbrev pub TellsPlace : List MarkOf → DeclarationOf → Option Decision → Option Reached → Type 0
-TellsPlace marks declared said (Some reached) = IsOfPlain said × TellsReached marks declared reached
-TellsPlace marks declared said None = IsOfPlain said → ⊥
+TellsPlace marks declared said (Some reached) = IsOfPlain marks said × TellsReached marks declared reached
+TellsPlace marks declared said None = IsOfPlain marks said → ⊥
 
 abbrev pub TellsPlaceOf : List MarkOf → DeclarationOf → Option Decision → Result (Option Reached) CheckFault → Type 0
 TellsPlaceOf marks declared said (Ok place) = TellsPlace marks declared said place

@@ -35,6 +35,6 @@ explained_head (Ok explained) = explained.records.transcript.head
 explained_head (Err told) = None
 
 -- what is printed of this outcome: one object on a line, behind a verdict with the head of a sealed transcript
-abbrev pub PrintsExplainedJson : {R : Type 0} → Input R → Input R → Input R → Result Explained FaultTold → Status → List ℕ → Type 0
-PrintsExplainedJson t d w outcome said lines = (known : Option Head) × (told : Members) × KnowsJudged outcome (came_of t) known
-    × TellsExplained outcome said (opened (check_files known t d w)) told × (lines ≡ line_of (object told))
+abbrev pub PrintsExplainedJson : {R : Type 0} → Option ℕ → Input R → Input R → Input R → Result Explained FaultTold → Status → List ℕ → Type 0
+PrintsExplainedJson torn t d w outcome said lines = (known : Option Head) × (told : Members) × KnowsJudged outcome (came_of t) known
+    × TellsExplained outcome said (opened (check_files torn known t d w)) told × (lines ≡ line_of (object told))

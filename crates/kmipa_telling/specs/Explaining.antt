@@ -44,7 +44,7 @@ pub record AreExplained (judged : Explained) (t d w : List ℕ) : Type 0 where
 -- what a check with explanations answers of these three files; its faults are those of an audit, with what they mean
 abbrev pub AuditsExplained : List ℕ → List ℕ → List ℕ → Bool → Bool → Bool → Result Explained FaultTold → Type 0
 AuditsExplained t d w failed_t failed_d failed_w (Ok explained) = AreExplained explained t d w
-AuditsExplained t d w failed_t failed_d failed_w (Err told) = AuditFails t d w failed_t failed_d failed_w told.fault × IsAuditMeaning t w told.fault told.meaning
+AuditsExplained t d w failed_t failed_d failed_w (Err told) = AuditFails t d w failed_t failed_d failed_w told.fault × IsAuditMeaning t d w told.fault told.meaning
 
 -- ---- what is printed
 

@@ -2,9 +2,11 @@
 use Rattle.std.specs.Prelude.{◌≡◌, ◌⊎◌, ℕ, List, [], ◌++◌, codes, Option, Some, None, Result, Ok, Err}
 use Rattle.serde_json.specs.Data.{Members, object, put}
 use Rattle.kmipa_record.specs.Marks.{MarkOf}
+use Rattle.kmipa_record.specs.Declarations.{DeclarationOf, IsDeclaration}
 use Rattle.kmipa_record.specs.Transcripts.{IsTranscript}
 use Rattle.kmipa_record.specs.Witnesses.{IsWitness, TurnOf}
 use Rattle.kmipa_check.specs.Calls.{IsFirstOutside}
+use Rattle.kmipa_check.specs.Grants.{GrantsOf, grants_declared}
 use Rattle.kmipa_check.specs.declared.auditing.AuditFault.{AuditFault}
 use Rattle.kmipa_check.specs.declared.auditing.AuditFault.TheVariants as audit
 use Rattle.kmipa_check.specs.declared.fault.CheckFault.{CheckFault}
@@ -41,18 +43,20 @@ IsOutsideMeaning marks (check.Outside number side o) None = ⊥
 IsOutsideMeaning marks fault None = Unit {0}
 IsOutsideMeaning marks fault (Some m) = ⊥
 
--- what a fault of a check means, of these calls and in these turns: why a message is outside, or why the turns don't fit, in claims that hold
-abbrev pub IsCheckMeaning : List MarkOf → List TurnOf → CheckFault → Option FaultMeaning → Type 0
-IsCheckMeaning marks turns (check.Witness f) (Some (Witness e)) = ExplainsWitness marks turns f.at f.kind e
-IsCheckMeaning marks turns (check.Witness f) (Some (Outside e)) = ⊥
-IsCheckMeaning marks turns (check.Witness f) None = ⊥
-IsCheckMeaning marks turns fault meaning = IsOutsideMeaning marks fault meaning
+-- what a fault of a check means, of these calls and in these turns, under a declaration that grants this: why a message is outside, or why the turns
+-- don't fit, in claims that hold
+abbrev pub IsCheckMeaning : GrantsOf → List MarkOf → List TurnOf → CheckFault → Option FaultMeaning → Type 0
+IsCheckMeaning g marks turns (check.Witness f) (Some (Witness e)) = ExplainsWitness g marks turns f.at f.kind e
+IsCheckMeaning g marks turns (check.Witness f) (Some (Outside e)) = ⊥
+IsCheckMeaning g marks turns (check.Witness f) None = ⊥
+IsCheckMeaning g marks turns fault meaning = IsOutsideMeaning marks fault meaning
 
--- the same of what these bytes are, of a transcript and of a witness; of a fault of a file nothing more is told
-abbrev pub IsAuditMeaning : List ℕ → List ℕ → AuditFault → Option FaultMeaning → Type 0
-IsAuditMeaning t w (audit.Check fault) meaning = (marks : List MarkOf) × (turns : List TurnOf) × IsTranscript t marks × IsWitness w turns × IsCheckMeaning marks turns fault meaning
-IsAuditMeaning t w fault None = Unit {0}
-IsAuditMeaning t w fault (Some m) = ⊥
+-- the same of what these bytes are, of the three files; of a fault of a file nothing more is told
+abbrev pub IsAuditMeaning : List ℕ → List ℕ → List ℕ → AuditFault → Option FaultMeaning → Type 0
+IsAuditMeaning t d w (audit.Check fault) meaning = (marks : List MarkOf) × (declared : DeclarationOf) × (turns : List TurnOf)
+    × IsTranscript t marks × IsDeclaration d declared × IsWitness w turns × IsCheckMeaning (grants_declared declared) marks turns fault meaning
+IsAuditMeaning t d w fault None = Unit {0}
+IsAuditMeaning t d w fault (Some m) = ⊥
 
 -- what a fault of a search means, of what these bytes are, of a transcript
 abbrev pub IsSearchMeaning : List ℕ → AuditFault → Option FaultMeaning → Type 0
@@ -95,11 +99,11 @@ IsFaultOf marks fault = Unit {0}
 abbrev pub IsFaultToldOf : List MarkOf → CheckFault → FaultTold → Type 0
 IsFaultToldOf marks fault told = ((told.fault ≡ audit.Check fault) × IsOutsideMeaning marks fault told.meaning) ⊎ (told ≡ bare_fault (audit.Check check.Memory))
 
--- the fault of a check of these calls and these turns
-abbrev pub IsCheckFaultOf : List MarkOf → List TurnOf → CheckFault → Type 0
-IsCheckFaultOf marks turns (check.Witness f) = HasFault marks turns f.at f.kind
-IsCheckFaultOf marks turns fault = IsFaultOf marks fault
+-- the fault of a check of these calls and these turns under a declaration that grants this
+abbrev pub IsCheckFaultOf : GrantsOf → List MarkOf → List TurnOf → CheckFault → Type 0
+IsCheckFaultOf g marks turns (check.Witness f) = HasFault g marks turns f.at f.kind
+IsCheckFaultOf g marks turns fault = IsFaultOf marks fault
 
 -- it is told with what it means; or memory ran out
-abbrev pub IsCheckToldOf : List MarkOf → List TurnOf → CheckFault → FaultTold → Type 0
-IsCheckToldOf marks turns fault told = ((told.fault ≡ audit.Check fault) × IsCheckMeaning marks turns fault told.meaning) ⊎ (told ≡ bare_fault (audit.Check check.Memory))
+abbrev pub IsCheckToldOf : GrantsOf → List MarkOf → List TurnOf → CheckFault → FaultTold → Type 0
+IsCheckToldOf g marks turns fault told = ((told.fault ≡ audit.Check fault) × IsCheckMeaning g marks turns fault told.meaning) ⊎ (told ≡ bare_fault (audit.Check check.Memory))

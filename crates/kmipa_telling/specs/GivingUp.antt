@@ -1,8 +1,10 @@
 -- What `search --explain` makes and prints: the lines of a search, and behind those of a giving up whether it has decided, and its deepest place.
 use Rattle.std.specs.Prelude.{◌≡◌, ℕ, List, [], ◌∷◌, ◌++◌, codes, Option, Some, None, Result, Ok, Err}
-use Rattle.std.specs.Fmt.{decimal}
+use Rattle.std.specs.Fmt.{decimal, signed_decimal}
+use Rattle.std.specs.String.{string_bytes}
 use Rattle.kmipa_runs.specs.Lines.{line}
 use Rattle.kmipa_runs.specs.Searches.{found_status, found_text, forced_text, Makes}
+use Rattle.kmipa_runs.specs.Shown.{quoted}
 use Rattle.kmipa_runs.specs.declared.status.Status.{Status}
 use Rattle.kmipa_telling.specs.Deepest.{reached_text}
 use Rattle.kmipa_telling.specs.FaultsTold.{PrintsFaultTold}
@@ -16,7 +18,9 @@ use Rattle.kmipa_telling.specs.declared.judged.Judged.{Judged}
 abbrev pub decision_line : Decision → List ℕ
 decision_line decision.Decided = line (codes "decided: no order explains every answer" ∷ [])
 decision_line (decision.UsedUp steps) = line (codes "not decided: the budget of " ∷ decimal steps ∷ codes " steps is used up" ∷ [])
+decision_line (decision.OneObject object) = line (codes "decided: no order explains the answers about object " ∷ quoted (string_bytes object) ∷ [])
 decision_line (decision.NotPlain numbers) = line (codes "not decided: these are not plain: " ∷ calls_text numbers.items ∷ [])
+decision_line (decision.Tolerant seconds) = line (codes "not decided: moments within " ∷ signed_decimal seconds ∷ codes " seconds of their stamps were not all tried" ∷ [])
 
 -- of a yes nothing more is printed
 abbrev pub decision_text : Option Decision → List ℕ

@@ -1,12 +1,13 @@
 -- What is told in JSON of a search, and made of it.
 use Rattle.std.specs.Prelude.{◌≡◌, ℕ, List, [], Bool, true, false, IsTrue, codes, Option, Some, None, Result, Ok, Err}
-use Rattle.serde_json.specs.Data.{Members, Items, no_items, item, object, array, boolean, put}
-use Rattle.kmipa_json.specs.Told.{count, file_members, line_of, with_item}
+use Rattle.std.specs.String.{string_bytes}
+use Rattle.serde_json.specs.Data.{Members, Items, no_items, item, object, array, boolean, string, put}
+use Rattle.kmipa_json.specs.Told.{count, file_members, integer, line_of, with_item}
 use Rattle.kmipa_ttlv.specs.Input.{came_of, is_ended, is_failed, IsFileOf}
 use Rattle.kmipa_ttlv.specs.declared.input.Input.{Input}
 use Rattle.kmipa_record.specs.declared.head.Head.{Head}
 use Rattle.kmipa_search.specs.declared.found.Found.{Found}
-use Rattle.kmipa_search.specs.declared.found.Found.TheVariants.{Yes, GaveUp}
+use Rattle.kmipa_search.specs.declared.found.Found.TheVariants.{Yes, GaveUp, Refuted}
 use Rattle.kmipa_runs.specs.Searches.{found_status, Makes}
 use Rattle.kmipa_runs.specs.declared.status.Status.{Status}
 use Rattle.kmipa_search.specs.declared.stuck.Reached.{Reached}
@@ -35,11 +36,13 @@ DecidesInputs t d budget asked outcome = ((a b : List ℕ) → IsFileOf a t → 
 
 -- ---- what is told
 
--- whether giving up has decided; if not, the budget that was used up, or the calls that aren't plain
+-- whether giving up has decided, and by which object; if not, the budget that was used up, the calls that aren't plain, or the tolerance
 abbrev pub decision_members : Decision → Members → Members
 decision_members decision.Decided told = put (codes "decided") (boolean true) told
 decision_members (decision.UsedUp steps) told = put (codes "budget") (count steps) (put (codes "decided") (boolean false) told)
+decision_members (decision.OneObject named) told = put (codes "object") (string (string_bytes named)) (put (codes "decided") (boolean true) told)
 decision_members (decision.NotPlain numbers) told = put (codes "not_plain") (array (call_items numbers.items)) (put (codes "decided") (boolean false) told)
+decision_members (decision.Tolerant seconds) told = put (codes "tolerance") (integer seconds) (put (codes "decided") (boolean false) told)
 
 abbrev pub told_decision : Option Decision → Members → Members
 told_decision None told = told
@@ -57,6 +60,7 @@ steps_members name steps told = put (codes "steps") (count steps) (verdict_named
 abbrev pub told_found : Found → Option Decision → Option Reached → Members → Members
 told_found (Yes witness steps) said reached told = steps_members (codes "yes") steps told
 told_found (GaveUp steps) said reached told = told_reached reached (told_decision said (steps_members (codes "gave up") steps told))
+told_found (Refuted steps named) said reached told = told_reached reached (told_decision said (steps_members (codes "gave up") steps told))
 
 -- what is told of what was found
 abbrev pub found_members : Judged → Members → Members
@@ -68,15 +72,16 @@ found_members judged told = told_found judged.searched.found judged.decision jud
 abbrev pub found_items : Found → List ℕ → Items → Items
 found_items (Yes witness steps) made told = with_item (object (file_members (codes "witness") made)) told
 found_items (GaveUp steps) made told = told
+found_items (Refuted steps named) made told = told
 
 abbrev pub judged_items : Result Judged FaultTold → List ℕ → Items → Items
 judged_items (Ok judged) made told = found_items judged.searched.found made told
 judged_items (Err fault) made told = told
 
 -- the files of a search: the two that are read, and the one that is made
-abbrev pub judged_files : {R : Type 0} → Result Judged FaultTold → Option Head → Input R → Input R → List ℕ → Items
-judged_files outcome known t d made = judged_items outcome made
-    (item (object (transcript_members known t)) (item (object (input_members (codes "declaration") d)) no_items))
+abbrev pub judged_files : {R : Type 0} → Option ℕ → Result Judged FaultTold → Option Head → Input R → Input R → List ℕ → Items
+judged_files torn outcome known t d made = judged_items outcome made
+    (item (object (transcript_members torn known t)) (item (object (input_members (codes "declaration") d)) no_items))
 
 -- the bytes are a file of the witness that was found, or none
 abbrev pub MakesFile : Result Judged FaultTold → List ℕ → Type 0
@@ -88,7 +93,7 @@ TellsJudged (Ok judged) said before after = (said ≡ found_status judged.search
 TellsJudged (Err told) said before after = TellsFaultTold told said before after
 
 -- what a search of two files prints in JSON of this outcome, one object on a line, with the head of a sealed transcript, and what it makes
-abbrev pub PrintsJsonSearch : {R : Type 0} → Input R → Input R → Result Judged FaultTold → Status → List ℕ → List ℕ → Type 0
-PrintsJsonSearch t d outcome said lines made = MakesFile outcome made
+abbrev pub PrintsJsonSearch : {R : Type 0} → Option ℕ → Input R → Input R → Result Judged FaultTold → Status → List ℕ → List ℕ → Type 0
+PrintsJsonSearch torn t d outcome said lines made = MakesFile outcome made
     × ((known : Option Head) × (told : Members) × KnowsJudged outcome (came_of t) known
-    × TellsJudged outcome said (opened (judged_files outcome known t d made)) told × (lines ≡ line_of (object told)))
+    × TellsJudged outcome said (opened (judged_files torn outcome known t d made)) told × (lines ≡ line_of (object told)))

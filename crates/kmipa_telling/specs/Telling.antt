@@ -1,6 +1,6 @@
 -- What is told in JSON of a verdict or a fault: the numbers of its line, each under a name of its own. An object has each name once, and
 -- what is put under a name stands in place of what it had there.
-use Rattle.std.specs.Prelude.{◌≡◌, ℕ, ℤ, Bool, true, false, List, codes, Option, Some, None, Result, Ok, Err}
+use Rattle.std.specs.Prelude.{◌≡◌, ℕ, ℤ, Bool, true, false, List, take, codes, Option, Some, None, Result, Ok, Err}
 use Rattle.serde_json.specs.Data.{Members, Items, no_items, item, no_members, object, array, string, put}
 use Rattle.kmipa_json.specs.Told.{count, integer, file_members, line_of}
 use Rattle.kmipa_ttlv.specs.Flaw.{fault_name}
@@ -115,13 +115,18 @@ read_members role false came = put (codes "role") (string role) no_members
 abbrev pub input_members : {R : Type 0} → List ℕ → Input R → Members
 input_members role i = read_members role (is_ended i) (came_of i)
 
+-- the bytes of a transcript that are its own: of a torn one so many, which stand ahead of the close that was put behind them
+abbrev pub own_bytes : Option ℕ → List ℕ → List ℕ
+own_bytes None came = came
+own_bytes (Some length) came = take length came
+
 -- what is told of a transcript, with what it is known by
-abbrev pub transcript_members : {R : Type 0} → Option Head → Input R → Members
-transcript_members known t = sealed_members known (input_members (codes "transcript") t)
+abbrev pub transcript_members : {R : Type 0} → Option ℕ → Option Head → Input R → Members
+transcript_members torn known t = sealed_members torn known (read_members (codes "transcript") (is_ended t) (own_bytes torn (came_of t)))
 
 -- the three files of a check
-abbrev pub check_files : {R : Type 0} → Option Head → Input R → Input R → Input R → Items
-check_files known t d w = item (object (transcript_members known t)) (item (object (input_members (codes "declaration") d))
+abbrev pub check_files : {R : Type 0} → Option ℕ → Option Head → Input R → Input R → Input R → Items
+check_files torn known t d w = item (object (transcript_members torn known t)) (item (object (input_members (codes "declaration") d))
     (item (object (input_members (codes "witness") w)) no_items))
 
 -- the head that is told behind a verdict
@@ -130,6 +135,6 @@ audit_head (Ok audited) = audited.transcript.head
 audit_head (Err fault) = None
 
 -- what a check of three files prints in JSON of this outcome: one object on a line, behind a verdict with the head of a sealed transcript
-abbrev pub PrintsJson : {R : Type 0} → Input R → Input R → Input R → Result Audited AuditFault → Status → List ℕ → Type 0
-PrintsJson t d w outcome said lines = (known : Option Head) × (told : Members) × KnowsJudged outcome (came_of t) known
-    × TellsOutcome outcome said (opened (check_files known t d w)) told × (lines ≡ line_of (object told))
+abbrev pub PrintsJson : {R : Type 0} → Option ℕ → Input R → Input R → Input R → Result Audited AuditFault → Status → List ℕ → Type 0
+PrintsJson torn t d w outcome said lines = (known : Option Head) × (told : Members) × KnowsJudged outcome (came_of t) known
+    × TellsOutcome outcome said (opened (check_files torn known t d w)) told × (lines ≡ line_of (object told))

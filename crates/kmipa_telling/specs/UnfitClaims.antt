@@ -13,6 +13,7 @@ use Rattle.kmipa_telling.specs.Lists.{objects}
 use Rattle.kmipa_telling.specs.NamingClaims.{number_members}
 use Rattle.kmipa_telling.specs.UnfitPhrases.{wanted_text}
 use Rattle.kmipa_unfit.specs.declared.explanation.Disorder.{Disorder}
+use Rattle.kmipa_unfit.specs.declared.explanation.FarMoment.{FarMoment}
 use Rattle.kmipa_unfit.specs.declared.explanation.OrderTold.{OrderTold}
 use Rattle.kmipa_unfit.specs.declared.explanation.OrderTold.TheVariants.{Refused, Few, InOrder}
 use Rattle.kmipa_unfit.specs.declared.explanation.Ordered.{Ordered}
@@ -73,30 +74,42 @@ disordered_told d before = put (codes "wrong") (object (wrong_members d.wrong)) 
 
 -- ---- fills
 
--- why a fill isn't wanted
+-- why a fill or a birth isn't wanted
 abbrev pub unwanted_told : Unwanted → Members → Members
 unwanted_told (unwanted.Unanswered answered) before = put (codes "answered") (count answered) before
 unwanted_told (unwanted.Status status) before = put (codes "status") (string (status_text status)) before
 unwanted_told unwanted.Present before = put (codes "payload_there") (boolean true) before
 unwanted_told (unwanted.Needless number) before = put (codes "operation") (object (operation_members number)) before
 unwanted_told (unwanted.Operations asked answered) before = put (codes "named") (object (operation_members answered)) (put (codes "asked") (object (operation_members asked)) before)
-unwanted_told (unwanted.Second fill) before = put (codes "named_before") (count fill) before
+unwanted_told (unwanted.Second number) before = put (codes "named_before") (count number) before
+
+-- a birth, or what is set aside
+abbrev pub birth_told : Unfit → Members → Members
+birth_told (unfit.BirthUnwanted u) before = unwanted_told u.why (put (codes "item") (integer u.item) (put (codes "birth") (count u.number) before))
+birth_told (unfit.BirthFormless item) before = put (codes "item") (integer item) (put (codes "birth") (count 1) before)
+birth_told (unfit.Aside item) before = put (codes "set_aside") (integer item) before
+birth_told other before = before
 
 -- a fill, or an item without one
 abbrev pub fill_told : Unfit → Members → Members
-fill_told (unfit.FillUnwanted u) before = unwanted_told u.why (put (codes "item") (integer u.item) (put (codes "fill") (count u.fill) before))
+fill_told (unfit.FillUnwanted u) before = unwanted_told u.why (put (codes "item") (integer u.item) (put (codes "fill") (count u.number) before))
 fill_told (unfit.FillMissing m) before = put (codes "operation") (object (operation_members m.operation)) (put (codes "item") (count m.item) before)
 fill_told (unfit.FillFormless f) before = put (codes "payload") (object (kind_members f.kind)) (put (codes "operation") (object (operation_members f.operation))
     (put (codes "item") (count f.item) (put (codes "fill") (count f.fill) before)))
-fill_told other before = before
+fill_told other before = birth_told other before
 
 -- ---- the whole
+
+-- a moment, the Time Stamp, and how far they may be apart
+abbrev pub moment_told : FarMoment → Members → Members
+moment_told m before = put (codes "tolerance") (integer m.tolerance) (put (codes "stamp") (integer m.stamp) (put (codes "moment") (integer m.moment) before))
 
 -- what a turn gives to its call
 abbrev pub given_told : Unfit → Members → Members
 given_told unfit.Ended before = put (codes "ended") (boolean true) before
 given_told unfit.Open before = put (codes "ended") (boolean false) before
 given_told (unfit.Answer o) before = answer_told o before
+given_told (unfit.Untimely m) before = moment_told m before
 given_told (unfit.Ordered o) before = ordered_told o before
 given_told (unfit.Disordered d) before = disordered_told d before
 given_told other before = fill_told other before

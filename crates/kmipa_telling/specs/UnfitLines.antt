@@ -5,9 +5,12 @@ use Rattle.kmipa_explain.specs.Meant.{text_of}
 use Rattle.kmipa_runs.specs.Lines.{line}
 use Rattle.kmipa_runs.specs.Shown.{quoted}
 use Rattle.kmipa_telling.specs.Phrases.{more_line, operation_text}
-use Rattle.kmipa_telling.specs.UnfitPhrases.{answer_line, disorder_lines, fill_line, formless_lines, item_line, order_lines, unwanted_lines, wanted_text}
+use Rattle.kmipa_telling.specs.UnfitPhrases.{answer_line, disorder_lines, formless_lines, item_line, moment_lines, order_lines, part_line, unwanted_lines, wanted_text}
+use Rattle.kmipa_unfit.specs.declared.explanation.Part.{Part}
+use Rattle.kmipa_unfit.specs.declared.explanation.Part.TheVariants as part
 use Rattle.kmipa_unfit.specs.declared.explanation.Unfit.{Unfit}
 use Rattle.kmipa_unfit.specs.declared.explanation.Unfit.TheVariants as unfit
+use Rattle.kmipa_unfit.specs.declared.explanation.UnwantedPart.{UnwantedPart}
 use Rattle.kmipa_unfit.specs.declared.explanation.WitnessExplanation.{WitnessExplanation}
 
 -- the line of a client, where there is one
@@ -36,18 +39,30 @@ asked_line operation = line (codes "operation: " ∷ operation_text operation �
 abbrev pub asked_lines : List ℕ → List ℕ
 asked_lines operations = flat_map asked_line (take 20 operations) ++ more_line (codes "operation") (length operations)
 
+-- the lines of a fill or a birth that isn't wanted
+abbrev pub unwanted_part_lines : Part → UnwantedPart → List ℕ
+unwanted_part_lines which u = part_line which u.number u.item ++ unwanted_lines which u.why
+
+-- the lines of a birth, or of what is set aside
+abbrev pub birth_lines : Unfit → List ℕ
+birth_lines (unfit.BirthUnwanted u) = unwanted_part_lines part.Birth u
+birth_lines (unfit.BirthFormless item) = part_line part.Birth 1 item ++ line (codes "may be given: no attribute" ∷ [])
+birth_lines (unfit.Aside item) = line (codes "set aside: item " ∷ signed_decimal item ∷ [])
+birth_lines other = []
+
 -- the lines of a fill, or of an item without one
 abbrev pub fill_lines : Unfit → List ℕ
-fill_lines (unfit.FillUnwanted u) = fill_line u.fill u.item ++ unwanted_lines u.why
+fill_lines (unfit.FillUnwanted u) = unwanted_part_lines part.Fill u
 fill_lines (unfit.FillMissing m) = item_line m.item ++ asked_line m.operation
 fill_lines (unfit.FillFormless f) = formless_lines f
-fill_lines other = []
+fill_lines other = birth_lines other
 
 -- the lines of what a turn gives to its call
 abbrev pub given_lines : Unfit → List ℕ
 given_lines unfit.Ended = line (codes "answer: given" ∷ [])
 given_lines unfit.Open = line (codes "answer: none" ∷ [])
 given_lines (unfit.Answer o) = answer_line o
+given_lines (unfit.Untimely m) = moment_lines m
 given_lines (unfit.Ordered o) = order_lines o
 given_lines (unfit.Disordered d) = disorder_lines d
 given_lines other = fill_lines other

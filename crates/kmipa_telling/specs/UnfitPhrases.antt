@@ -7,10 +7,13 @@ use Rattle.kmipa_runs.specs.Lines.{line}
 use Rattle.kmipa_telling.specs.Causes.{status_text}
 use Rattle.kmipa_telling.specs.Phrases.{more_text, numbered, operation_text}
 use Rattle.kmipa_unfit.specs.declared.explanation.Disorder.{Disorder}
+use Rattle.kmipa_unfit.specs.declared.explanation.FarMoment.{FarMoment}
 use Rattle.kmipa_unfit.specs.declared.explanation.FormlessFill.{FormlessFill}
 use Rattle.kmipa_unfit.specs.declared.explanation.OrderTold.{OrderTold}
 use Rattle.kmipa_unfit.specs.declared.explanation.OrderTold.TheVariants.{Refused, Few, InOrder}
 use Rattle.kmipa_unfit.specs.declared.explanation.Ordered.{Ordered}
+use Rattle.kmipa_unfit.specs.declared.explanation.Part.{Part}
+use Rattle.kmipa_unfit.specs.declared.explanation.Part.TheVariants as part
 use Rattle.kmipa_unfit.specs.declared.explanation.Unfit.{Unfit}
 use Rattle.kmipa_unfit.specs.declared.explanation.Unfit.TheVariants as unfit
 use Rattle.kmipa_unfit.specs.declared.explanation.Unwanted.{Unwanted}
@@ -53,24 +56,48 @@ wrong_line (wrong.NotLast item) = line (codes "wrong: item " ∷ decimal item �
 abbrev pub disorder_lines : Disorder → List ℕ
 disorder_lines d = places_line d.places.items ++ (answered_line d.answered ++ wrong_line d.wrong)
 
--- ---- fills
+-- ---- moments
 
--- which fill it is, and for which item
-abbrev pub fill_line : ℕ → ℤ → List ℕ
-fill_line fill item = line (codes "fill: " ∷ decimal fill ∷ codes ", for item " ∷ signed_decimal item ∷ [])
+abbrev pub moment_line : ℤ → List ℕ
+moment_line moment = line (codes "moment: " ∷ signed_decimal moment ∷ codes " seconds since 1970" ∷ [])
+
+abbrev pub stamp_line : ℤ → List ℕ
+stamp_line stamp = line (codes "Time Stamp: " ∷ signed_decimal stamp ∷ codes " seconds since 1970" ∷ [])
+
+abbrev pub tolerance_line : ℤ → List ℕ
+tolerance_line tolerance = line (codes "tolerance: " ∷ signed_decimal tolerance ∷ codes " seconds" ∷ [])
+
+-- a moment, the Time Stamp, and how far they may be apart
+abbrev pub moment_lines : FarMoment → List ℕ
+moment_lines m = moment_line m.moment ++ (stamp_line m.stamp ++ tolerance_line m.tolerance)
+
+-- ---- fills and births
+
+abbrev pub part_name : Part → List ℕ
+part_name part.Fill = codes "fill"
+part_name part.Birth = codes "birth"
+
+-- which fill or birth it is, and for which item
+abbrev pub part_line : Part → ℕ → ℤ → List ℕ
+part_line which number item = line (part_name which ∷ codes ": " ∷ decimal number ∷ codes ", for item " ∷ signed_decimal item ∷ [])
+
+-- what an operation doesn't do whose item needs none
+abbrev pub needless_text : Part → List ℕ
+needless_text part.Fill = codes "whose payload is never wanted"
+needless_text part.Birth = codes "which makes no object"
 
 -- which item has none
 abbrev pub item_line : ℕ → List ℕ
 item_line item = line (codes "item: " ∷ decimal item ∷ [])
 
 -- why it isn't wanted
-abbrev pub unwanted_lines : Unwanted → List ℕ
-unwanted_lines (unwanted.Unanswered answered) = answered_line answered
-unwanted_lines (unwanted.Status status) = line (codes "status: " ∷ status_text status ∷ [])
-unwanted_lines unwanted.Present = line (codes "payload: there" ∷ [])
-unwanted_lines (unwanted.Needless number) = line (codes "operation: " ∷ operation_text number ∷ codes ", whose payload is never wanted" ∷ [])
-unwanted_lines (unwanted.Operations asked answered) = line (codes "asked: " ∷ operation_text asked ∷ codes "\nanswered: " ∷ operation_text answered ∷ [])
-unwanted_lines (unwanted.Second fill) = line (codes "named before: fill " ∷ decimal fill ∷ [])
+abbrev pub unwanted_lines : Part → Unwanted → List ℕ
+unwanted_lines which (unwanted.Unanswered answered) = answered_line answered
+unwanted_lines which (unwanted.Status status) = line (codes "status: " ∷ status_text status ∷ [])
+unwanted_lines which unwanted.Present = line (codes "payload: there" ∷ [])
+unwanted_lines which (unwanted.Needless number) = line (codes "operation: " ∷ operation_text number ∷ codes ", " ∷ needless_text which ∷ [])
+unwanted_lines which (unwanted.Operations asked answered) = line (codes "asked: " ∷ operation_text asked ∷ codes "\nanswered: " ∷ operation_text answered ∷ [])
+unwanted_lines which (unwanted.Second number) = line (codes "named before: " ∷ part_name which ∷ codes " " ∷ decimal number ∷ [])
 
 -- which isn't of its form, and why
 abbrev pub formless_lines : FormlessFill → List ℕ
@@ -93,6 +120,14 @@ fill_wanted_text (unwanted.Needless number) = codes "no fill for this item"
 fill_wanted_text (unwanted.Operations asked answered) = codes "no fill for this item"
 fill_wanted_text (unwanted.Second fill) = codes "one fill for an item"
 
+abbrev pub birth_wanted_text : Unwanted → List ℕ
+birth_wanted_text (unwanted.Unanswered answered) = codes "no birth for this item"
+birth_wanted_text (unwanted.Status status) = codes "no birth for this item"
+birth_wanted_text unwanted.Present = codes "no birth for this item"
+birth_wanted_text (unwanted.Needless number) = codes "no birth for this item"
+birth_wanted_text (unwanted.Operations asked answered) = codes "no birth for this item"
+birth_wanted_text (unwanted.Second number) = codes "one birth for an item"
+
 abbrev pub wanted_text : Unfit → List ℕ
 wanted_text (unfit.Unknown count) = codes "the number of a call of the transcript"
 wanted_text (unfit.Twice turn) = codes "one turn for a call"
@@ -105,3 +140,7 @@ wanted_text (unfit.Disordered d) = order_wanted_text d.wrong
 wanted_text (unfit.FillUnwanted u) = fill_wanted_text u.why
 wanted_text (unfit.FillMissing m) = codes "a fill with the item's Response Payload"
 wanted_text (unfit.FillFormless f) = codes "a Response Payload of this operation"
+wanted_text (unfit.Untimely m) = codes "a moment within the tolerance"
+wanted_text (unfit.BirthUnwanted u) = birth_wanted_text u.why
+wanted_text (unfit.BirthFormless item) = codes "no birth"
+wanted_text (unfit.Aside item) = codes "no item that is set aside"

@@ -5,29 +5,32 @@ ghost use Rattle.kmipa_record.specs.Marks.{AreRecorded};
 ghost use Rattle.kmipa_record.specs.Transcripts.{transcript_of};
 ghost use Rattle.kmipa_check.specs.Calls.{AreCalls, CallOf, call_of};
 ghost use Rattle.kmipa_check.specs.Deciding.{Decided};
+ghost use Rattle.kmipa_check.specs.Grants.{grants_of};
 ghost use Rattle.kmipa_check.specs.Steps.{StepOf};
 ghost use Rattle.kmipa_search.specs.Plain.{ArePlain};
-ghost use Rattle.kmipa_telling.specs.Deciding.{AreUnplain, IsPlain, TellsDecision};
+ghost use Rattle.kmipa_telling.specs.Deciding.{AreUnplain, IsDecidedUnder, IsPlain, TellsDecision};
 
 use crate::judged::Decision;
 use kmipa_batch::is_unordered;
-use kmipa_check::{Call, CheckFault, needs_fill, read_calls};
+use kmipa_check::{Call, CheckFault, Grants, needs_fill, read_calls};
 use kmipa_record::Transcript;
 use kmipa_search::is_forced;
 use std::alloc::{AllocError, Global};
 
-/// Whether a search of this transcript that gave up after `count` steps of a budget has decided, and if not, why.
+/// Whether a search of this transcript, under a declaration that grants this, which gave up after `count` steps of a budget has decided, and if
+/// not, why.
 pub fn decide(
     alloc: Global,
     transcript: &Transcript,
+    grants: Grants,
     budget: u64,
     count: u64,
 ) -> Result<Decision, CheckFault>
     ensures { AreRecorded (transcript_of transcript.now)
-        → TellsDecision (transcript_of transcript.now) budget count result }
+        → TellsDecision (transcript_of transcript.now) (grants_of grants) budget count result }
 {
     let calls = read_calls(alloc, transcript)?;
-    decide_calls(alloc, transcript, &calls, budget, count)
+    decide_calls(alloc, transcript, &calls, grants, budget, count)
 }
 
 /// The same of the calls of the transcript.
@@ -35,16 +38,17 @@ fn decide_calls(
     alloc: Global,
     transcript: &Transcript,
     calls: &[Call],
+    grants: Grants,
     budget: u64,
     count: u64,
 ) -> Result<Decision, CheckFault>
     ensures { AreRecorded (transcript_of transcript.now)
         → AreCalls (transcript_of transcript.now) (map call_of calls.now)
-        → TellsDecision (transcript_of transcript.now) budget count result }
+        → TellsDecision (transcript_of transcript.now) (grants_of grants) budget count result }
 {
     let numbers = unplain(alloc, calls)?;
     if numbers.as_slice().is_empty() {
-        return decide_plain(alloc, transcript, calls, budget, count);
+        return decide_plain(alloc, transcript, calls, grants, budget, count);
     }
     Ok(Decision::NotPlain(numbers))
 }
@@ -54,24 +58,36 @@ fn decide_plain(
     alloc: Global,
     transcript: &Transcript,
     calls: &[Call],
+    grants: Grants,
     budget: u64,
     count: u64,
 ) -> Result<Decision, CheckFault>
     ensures { AreRecorded (transcript_of transcript.now)
         → AreCalls (transcript_of transcript.now) (map call_of calls.now)
         → ((steps : List StepOf) × ArePlain (map call_of calls.now) steps)
-        → TellsDecision (transcript_of transcript.now) budget count result }
+        → TellsDecision (transcript_of transcript.now) (grants_of grants) budget count result }
 {
     if count < budget {
-        return Ok(Decision::Decided);
+        return Ok(decided_under(grants));
     }
     if calls.len() as u64 > budget {
         return Ok(Decision::UsedUp(budget));
     }
     if is_forced(alloc, transcript)? {
-        Ok(Decision::Decided)
+        Ok(decided_under(grants))
     } else {
         Ok(Decision::UsedUp(budget))
+    }
+}
+
+/// What is said where each order was tried at the stamps: that is decided where moments are stamps.
+fn decided_under(grants: Grants) -> Decision
+    ensures { IsDecidedUnder (grants_of grants) result }
+{
+    if grants.tolerance == 0 {
+        Decision::Decided
+    } else {
+        Decision::Tolerant(grants.tolerance)
     }
 }
 

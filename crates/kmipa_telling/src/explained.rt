@@ -9,7 +9,7 @@ ghost use Rattle.kmipa_telling.specs.Explaining.{AuditsExplained, IsExplained, T
 
 use crate::fault_told::FaultTold;
 use crate::faults::check_fault_told;
-use kmipa_check::{AuditFault, AuditRecords, CheckFault, Verdict, check};
+use kmipa_check::{AuditFault, AuditRecords, CheckFault, Grants, Verdict, check};
 use kmipa_explain::{Explanation, explain};
 use std::alloc::Global;
 
@@ -39,6 +39,7 @@ pub fn explain_records(alloc: Global, records: AuditRecords) -> Result<Explained
         Ok(verdict) => verdict,
         Err(fault) => return Err(check_fault_told(
             alloc,
+            &Grants::of(&records.declaration),
             &records.transcript,
             &records.witness,
             fault,

@@ -33,6 +33,7 @@ use std::io::Read;
 /// runs out nothing is appended, and the status is `Failed`.
 pub fn explain_json<R: Read>(
     alloc: Global,
+    torn: Option<u64>,
     transcript: &mut Input<R>,
     declaration: &mut Input<R>,
     witness: &mut Input<R>,
@@ -45,7 +46,7 @@ pub fn explain_json<R: Read>(
     // ran out.
     ensures prints { ((outcome : Result Explained FaultTold)
         × ExplainsInputs transcript.new declaration.new witness.new outcome
-        × PrintsExplainedJson transcript.new declaration.new witness.new outcome result.status
+        × PrintsExplainedJson torn transcript.new declaration.new witness.new outcome result.status
         (appended_bytes out.old.items out.new.items))
         ⊎ IsSilent result.status (appended_bytes out.old.items out.new.items) }
     // Status 0 is answered only where the bytes that came, to the ends that were seen, are accepted.
@@ -59,7 +60,15 @@ pub fn explain_json<R: Read>(
     let mut held = Held::new(alloc);
     match explain_held(alloc, transcript, declaration, witness, &mut held) {
         Ok(outcome) => {
-            let lines = lines_of(alloc, transcript, declaration, witness, &held, &outcome);
+            let lines = lines_of(
+                alloc,
+                torn,
+                transcript,
+                declaration,
+                witness,
+                &held,
+                &outcome,
+            );
             Answered {
                 status: append(lines, out),
                 head: explained_head(outcome),
@@ -85,6 +94,7 @@ fn explained_head(outcome: Result<Explained, FaultTold>) -> Option<Head>
 /// The object of a check of files whose bytes are held, with this outcome, on a line.
 fn lines_of<R>(
     alloc: Global,
+    torn: Option<u64>,
     transcript: &Input<R>,
     declaration: &Input<R>,
     witness: &Input<R>,
@@ -93,10 +103,10 @@ fn lines_of<R>(
 ) -> Result<Lines, AllocError>
     requires held { HoldsAll held.now transcript.now declaration.now witness.now }
     requires known { KnowsJudged outcome.now (came_of transcript.now) (explained_head outcome.now) }
-    ensures { IfOk result (λ lines. PrintsExplainedJson transcript.now declaration.now witness.now outcome.now
+    ensures { IfOk result (λ lines. PrintsExplainedJson torn transcript.now declaration.now witness.now outcome.now
         lines.status (string_bytes lines.text)) }
 {
-    let mut told = opened_object(alloc, transcript, declaration, witness, held, outcome)?;
+    let mut told = opened_object(alloc, torn, transcript, declaration, witness, held, outcome)?;
     let status = tell_explained(alloc, &mut told, outcome)?;
     Ok(Lines {
         text: told.into_line()?,
@@ -107,6 +117,7 @@ fn lines_of<R>(
 /// An object that has what every one has, where a check of these files had this outcome.
 fn opened_object<R>(
     alloc: Global,
+    torn: Option<u64>,
     transcript: &Input<R>,
     declaration: &Input<R>,
     witness: &Input<R>,
@@ -115,18 +126,19 @@ fn opened_object<R>(
 ) -> Result<JsonObject, AllocError>
     requires { HoldsAll held.now transcript.now declaration.now witness.now }
     ensures { IfOk result (λ told. members_of told
-        ≡ opened (check_files (explained_head outcome.now) transcript.now declaration.now witness.now)) }
+        ≡ opened (check_files torn (explained_head outcome.now) transcript.now declaration.now witness.now)) }
 {
     match outcome {
         Ok(explained) => open_files(
             alloc,
+            torn,
             transcript,
             declaration,
             witness,
             held,
             &explained.records.transcript.head,
         ),
-        Err(_) => open_files(alloc, transcript, declaration, witness, held, &None),
+        Err(_) => open_files(alloc, torn, transcript, declaration, witness, held, &None),
     }
 }
 

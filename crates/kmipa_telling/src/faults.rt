@@ -2,6 +2,7 @@
 
 ghost use Rattle.std.specs.Prelude.{IfOk, OnOk, string_bytes};
 ghost use Rattle.kmipa_json.specs.Told.{members_of};
+ghost use Rattle.kmipa_check.specs.Grants.{grants_of};
 ghost use Rattle.kmipa_record.specs.Marks.{AreRecorded};
 ghost use Rattle.kmipa_record.specs.Transcripts.{transcript_of};
 ghost use Rattle.kmipa_record.specs.Witnesses.{witness_of};
@@ -13,7 +14,7 @@ use crate::outside_lines::outside_text;
 use crate::telling::tell_fault;
 use crate::unfit_claims::unfit_object;
 use crate::unfit_lines::unfit_text;
-use kmipa_check::{AuditFault, CheckFault};
+use kmipa_check::{AuditFault, CheckFault, Grants};
 use kmipa_json::JsonObject;
 use kmipa_outside::explain_outside;
 use kmipa_record::{Transcript, Witness};
@@ -39,21 +40,22 @@ pub fn fault_told(alloc: Global, transcript: &Transcript, fault: CheckFault) -> 
     }
 }
 
-/// A fault that a check of this transcript and this witness gave, and what it means.
+/// A fault that a check of this transcript and this witness gave, under a declaration that grants this, and what it means.
 pub fn check_fault_told(
     alloc: Global,
+    grants: &Grants,
     transcript: &Transcript,
     witness: &Witness,
     fault: CheckFault,
 ) -> FaultTold
     requires recorded { AreRecorded (transcript_of transcript.now) }
-    requires told { IsCheckFaultOf (transcript_of transcript.now) (witness_of witness.now) fault }
-    ensures { IsCheckToldOf (transcript_of transcript.now) (witness_of witness.now) fault result }
+    requires told { IsCheckFaultOf (grants_of grants.now) (transcript_of transcript.now) (witness_of witness.now) fault }
+    ensures { IsCheckToldOf (grants_of grants.now) (transcript_of transcript.now) (witness_of witness.now) fault result }
 {
     let CheckFault::Witness(unfit) = fault else {
         return fault_told(alloc, transcript, fault);
     };
-    match explain_witness(alloc, transcript, witness, unfit) {
+    match explain_witness(alloc, grants, transcript, witness, unfit) {
         Ok(explanation) => FaultTold {
             fault: AuditFault::Check(fault),
             meaning: Some(FaultMeaning::Witness(explanation)),

@@ -17,7 +17,7 @@ use crate::judged::{Decision, Judged, SearchOptions, judge_records};
 use crate::phrases::calls_text;
 use kmipa_check::AuditFault;
 use kmipa_record::{Head, read_declaration, read_transcript};
-use kmipa_runs::{Answered, Lines, Status, append, searched_lines, tell_witness};
+use kmipa_runs::{Answered, Lines, Status, append, quoted_text, searched_lines, tell_witness};
 use kmipa_search::{Found, Watch};
 use kmipa_ttlv::Input;
 use std::alloc::{AllocError, Global};
@@ -128,6 +128,7 @@ fn tell_judged(alloc: Global, judged: &Judged, out: &mut Vec<u8>, made: &mut Vec
     match &judged.searched.found {
         Found::Yes(witness, _) => tell_witness(alloc, witness, &lines, out, made),
         Found::GaveUp(_) => append(Ok(lines), out),
+        Found::Refuted(_, _) => append(Ok(lines), out),
     }
 }
 
@@ -163,12 +164,21 @@ fn decision_line(alloc: Global, decision: &Decision) -> Result<String, AllocErro
         Decision::Decided => {
             String::from_str(alloc, "decided: no order explains every answer\n")
         }
+        Decision::OneObject(object) => {
+            let quoted = quoted_text(alloc, object.as_str())?;
+            format!(in alloc; "decided: no order explains the answers about object {quoted}\n")
+        }
         Decision::UsedUp(steps) => {
             format!(in alloc; "not decided: the budget of {steps} steps is used up\n")
         }
         Decision::NotPlain(numbers) => {
             let calls = calls_text(alloc, numbers)?;
             format!(in alloc; "not decided: these are not plain: {calls}\n")
+        }
+        Decision::Tolerant(seconds) => {
+            format!(in alloc;
+                "not decided: moments within {seconds} seconds of their stamps were not all tried\n"
+            )
         }
     }
 }

@@ -1,6 +1,6 @@
 //! What a check tells in JSON.
 
-ghost use Rattle.std.specs.Prelude.{◌≡◌, ◌⊎◌, [], IfOk, Result, string_bytes};
+ghost use Rattle.std.specs.Prelude.{◌≡◌, ◌⊎◌, [], take, IfOk, Result, string_bytes};
 ghost use Rattle.std.specs.Io.{StartsWith, appended_bytes};
 ghost use Rattle.kmipa_ttlv.specs.Input.{came_of};
 ghost use Rattle.kmipa_json.specs.Told.{items_of, members_of};
@@ -10,7 +10,7 @@ ghost use Rattle.kmipa_runs.specs.Statuses.{IsSilent};
 ghost use Rattle.kmipa_telling.specs.Held.{HoldsAll};
 ghost use Rattle.kmipa_telling.specs.Judging.{AreEnded, AuditsInputs};
 ghost use Rattle.kmipa_telling.specs.Seals.{KnowsJudged};
-ghost use Rattle.kmipa_telling.specs.Telling.{PrintsJson, TellsOutcome, audit_head, check_files, input_members, opened, transcript_members};
+ghost use Rattle.kmipa_telling.specs.Telling.{PrintsJson, TellsOutcome, audit_head, check_files, input_members, opened, own_bytes, read_members, transcript_members};
 
 use crate::held::Held;
 use crate::judging::audit_held;
@@ -28,10 +28,12 @@ use std::io::Read;
 pub const VERSION: &str = "0.1.0";
 
 /// `check TRANSCRIPT DECLARATION WITNESS --json`: appends one JSON object and a line feed, which tell the verdict, or the fault that
-/// stands in its place, and answers the status. Behind a verdict on a sealed transcript they tell its head, which is answered too. Where memory
+/// stands in its place, and answers the status. Behind a verdict on a sealed transcript they tell its head, which is answered too. Of a transcript
+/// that is `torn` so many bytes are its own, and behind them stands a close that was put there: of that nothing is told. Where memory
 /// runs out nothing is appended, and the status is `Failed`.
 pub fn check_json<R: Read>(
     alloc: Global,
+    torn: Option<u64>,
     transcript: &mut Input<R>,
     declaration: &mut Input<R>,
     witness: &mut Input<R>,
@@ -43,7 +45,7 @@ pub fn check_json<R: Read>(
     // What is printed tells what an audit answers of whatever the inputs may be, or memory ran out.
     ensures prints { ((outcome : Result Audited AuditFault)
         × AuditsInputs transcript.new declaration.new witness.new outcome
-        × PrintsJson transcript.new declaration.new witness.new outcome result.status
+        × PrintsJson torn transcript.new declaration.new witness.new outcome result.status
         (appended_bytes out.old.items out.new.items))
         ⊎ IsSilent result.status (appended_bytes out.old.items out.new.items) }
     // Status 0 is answered only where the bytes that came, to the ends that were seen, are accepted.
@@ -57,7 +59,15 @@ pub fn check_json<R: Read>(
     let mut held = Held::new(alloc);
     match audit_held(alloc, transcript, declaration, witness, &mut held) {
         Ok(outcome) => {
-            let lines = lines_of(alloc, transcript, declaration, witness, &held, &outcome);
+            let lines = lines_of(
+                alloc,
+                torn,
+                transcript,
+                declaration,
+                witness,
+                &held,
+                &outcome,
+            );
             Answered {
                 status: append(lines, out),
                 head: audit_head(outcome),
@@ -83,6 +93,7 @@ fn audit_head(outcome: Result<Audited, AuditFault>) -> Option<Head>
 /// The object of an audit of files whose bytes are held, with this outcome, on a line.
 fn lines_of<R>(
     alloc: Global,
+    torn: Option<u64>,
     transcript: &Input<R>,
     declaration: &Input<R>,
     witness: &Input<R>,
@@ -91,10 +102,10 @@ fn lines_of<R>(
 ) -> Result<Lines, AllocError>
     requires held { HoldsAll held.now transcript.now declaration.now witness.now }
     requires known { KnowsJudged outcome.now (came_of transcript.now) (audit_head outcome.now) }
-    ensures { IfOk result (λ lines. PrintsJson transcript.now declaration.now witness.now outcome.now
+    ensures { IfOk result (λ lines. PrintsJson torn transcript.now declaration.now witness.now outcome.now
         lines.status (string_bytes lines.text)) }
 {
-    let mut told = opened_object(alloc, transcript, declaration, witness, held, outcome)?;
+    let mut told = opened_object(alloc, torn, transcript, declaration, witness, held, outcome)?;
     let status = tell_outcome(alloc, &mut told, outcome)?;
     Ok(Lines {
         text: told.into_line()?,
@@ -105,6 +116,7 @@ fn lines_of<R>(
 /// An object that has what every one has, where an audit of these files had this outcome.
 fn opened_object<R>(
     alloc: Global,
+    torn: Option<u64>,
     transcript: &Input<R>,
     declaration: &Input<R>,
     witness: &Input<R>,
@@ -113,24 +125,26 @@ fn opened_object<R>(
 ) -> Result<JsonObject, AllocError>
     requires { HoldsAll held.now transcript.now declaration.now witness.now }
     ensures { IfOk result (λ told. members_of told
-        ≡ opened (check_files (audit_head outcome.now) transcript.now declaration.now witness.now)) }
+        ≡ opened (check_files torn (audit_head outcome.now) transcript.now declaration.now witness.now)) }
 {
     match outcome {
         Ok(audited) => open_files(
             alloc,
+            torn,
             transcript,
             declaration,
             witness,
             held,
             &audited.transcript.head,
         ),
-        Err(_) => open_files(alloc, transcript, declaration, witness, held, &None),
+        Err(_) => open_files(alloc, torn, transcript, declaration, witness, held, &None),
     }
 }
 
 /// An object that has what every one has, where these files were read whose bytes are held, and this head is to be told of the transcript.
 pub fn open_files<R>(
     alloc: Global,
+    torn: Option<u64>,
     transcript: &Input<R>,
     declaration: &Input<R>,
     witness: &Input<R>,
@@ -139,10 +153,10 @@ pub fn open_files<R>(
 ) -> Result<JsonObject, AllocError>
     requires { HoldsAll held.now transcript.now declaration.now witness.now }
     ensures { IfOk result (λ told. members_of told
-        ≡ opened (check_files known.now transcript.now declaration.now witness.now)) }
+        ≡ opened (check_files torn known.now transcript.now declaration.now witness.now)) }
 {
     let mut files = JsonList::new(alloc);
-    files.push_object(transcript_object(alloc, transcript, &held.transcript, known)?)?;
+    files.push_object(transcript_object(alloc, torn, transcript, &held.transcript, known)?)?;
     files.push_object(read_object(alloc, "declaration", declaration, &held.declaration)?)?;
     files.push_object(read_object(alloc, "witness", witness, &held.witness)?)?;
     open_object(alloc, files)
@@ -151,16 +165,39 @@ pub fn open_files<R>(
 /// What is told of a transcript that was read, whose bytes are held, and this head.
 pub fn transcript_object<R>(
     alloc: Global,
+    torn: Option<u64>,
     input: &Input<R>,
     held: &[u8],
     known: &Option<Head>,
 ) -> Result<JsonObject, AllocError>
     requires { held.now ≡ came_of input.now }
-    ensures { IfOk result (λ told. members_of told ≡ transcript_members known.now input.now) }
+    ensures { IfOk result (λ told. members_of told ≡ transcript_members torn known.now input.now) }
 {
-    let mut told = read_object(alloc, "transcript", input, held)?;
-    tell_seal(alloc, &mut told, known)?;
+    let own = own_bytes(torn, held);
+    let mut told = file_object(alloc, "transcript", input.ended(), own)?;
+    tell_seal(alloc, &mut told, torn, known)?;
     Ok(told)
+}
+
+/// The bytes of a transcript that are its own; of a torn one they are so many.
+fn own_bytes(torn: Option<u64>, held: &[u8]) -> &[u8]
+    ensures { result.now ≡ own_bytes torn held.now }
+{
+    match torn {
+        Some(length) => front_of(held, length as usize),
+        None => held,
+    }
+}
+
+/// So many bytes, or all where there are no more.
+fn front_of(held: &[u8], length: usize) -> &[u8]
+    ensures { result.now ≡ take length held.now }
+{
+    if held.len() <= length {
+        return held;
+    }
+    let (front, _) = held.split_at(length);
+    front
 }
 
 /// What is told of a file that was read, whose bytes are held.
@@ -173,8 +210,20 @@ pub fn read_object<R>(
     requires { held.now ≡ came_of input.now }
     ensures { IfOk result (λ told. members_of told ≡ input_members role.now input.now) }
 {
-    if input.ended() {
-        return told_file(alloc, role, held);
+    file_object(alloc, role, input.ended(), held)
+}
+
+/// What is told of a file of these bytes, which was read to its end or not.
+fn file_object(
+    alloc: Global,
+    role: &str,
+    ended: bool,
+    bytes: &[u8],
+) -> Result<JsonObject, AllocError>
+    ensures { IfOk result (λ told. members_of told ≡ read_members role.now ended bytes.now) }
+{
+    if ended {
+        return told_file(alloc, role, bytes);
     }
     let mut told = JsonObject::new(alloc);
     told.put_text("role", role)?;

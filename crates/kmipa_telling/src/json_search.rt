@@ -46,6 +46,7 @@ struct SearchHeld {
 /// and the status is `Failed`.
 pub fn search_json<R: Read, W: Watch>(
     alloc: Global,
+    torn: Option<u64>,
     transcript: &mut Input<R>,
     declaration: &mut Input<R>,
     budget: u64,
@@ -60,7 +61,7 @@ pub fn search_json<R: Read, W: Watch>(
     // What is made and printed tells what a search answers of whatever the inputs may be, or memory ran out.
     ensures prints { ((outcome : Result Judged FaultTold)
         × DecidesInputs transcript.new declaration.new budget forced outcome
-        × PrintsJsonSearch transcript.new declaration.new outcome result.status
+        × PrintsJsonSearch torn transcript.new declaration.new outcome result.status
         (appended_bytes out.old.items out.new.items) (appended_bytes made.old.items made.new.items))
         ⊎ (IsSilent result.status (appended_bytes out.old.items out.new.items)
         × (appended_bytes made.old.items made.new.items ≡ [])) }
@@ -86,7 +87,7 @@ pub fn search_json<R: Read, W: Watch>(
     };
     match search_held(alloc, transcript, declaration, &mut held, asked, watch) {
         Ok(outcome) => {
-            let answer = told_of(alloc, transcript, declaration, &held, &outcome);
+            let answer = told_of(alloc, torn, transcript, declaration, &held, &outcome);
             Answered {
                 status: append_both(answer, out, made),
                 head: held.head,
@@ -126,6 +127,7 @@ fn append_both(answer: Result<Answer, AllocError>, out: &mut Vec<u8>, made: &mut
 /// What is printed and made of this outcome of a search of files whose bytes are held.
 fn told_of<R>(
     alloc: Global,
+    torn: Option<u64>,
     transcript: &Input<R>,
     declaration: &Input<R>,
     held: &SearchHeld,
@@ -134,12 +136,12 @@ fn told_of<R>(
     requires transcript { held.now.transcript.items ≡ came_of transcript.now }
     requires declaration { held.now.declaration.items ≡ came_of declaration.now }
     requires known { KnowsJudged outcome.now (came_of transcript.now) held.now.head }
-    ensures { IfOk result (λ answer. PrintsJsonSearch transcript.now declaration.now outcome.now answer.lines.status
+    ensures { IfOk result (λ answer. PrintsJsonSearch torn transcript.now declaration.now outcome.now answer.lines.status
         (string_bytes answer.lines.text) answer.made.items) }
 {
     let made = made_of(alloc, outcome)?;
     let mut files = JsonList::new(alloc);
-    files.push_object(transcript_object(alloc, transcript, &held.transcript, &held.head)?)?;
+    files.push_object(transcript_object(alloc, torn, transcript, &held.transcript, &held.head)?)?;
     files.push_object(read_object(alloc, "declaration", declaration, &held.declaration)?)?;
     push_made(alloc, &mut files, outcome, made.as_slice())?;
     let mut told = open_object(alloc, files)?;

@@ -7,7 +7,7 @@ ghost use Rattle.kmipa_telling.specs.Deciding.{DecidesRecords};
 
 use crate::deciding::decide;
 use crate::stuck::deepest_place;
-use kmipa_check::CheckFault;
+use kmipa_check::{CheckFault, Grants};
 use kmipa_record::{Declaration, Transcript};
 use kmipa_runs::{Searched, search_records};
 use kmipa_search::{Deepest, Found, Reached, Watch};
@@ -18,10 +18,14 @@ use std::alloc::Global;
 pub enum Decision {
     /// No order explains the transcript.
     Decided,
+    /// No order explains the answers about the object of this identifier.
+    OneObject(String),
     /// Nothing: so many steps, the whole budget, are used up.
     UsedUp(u64),
     /// Nothing: the calls of these numbers aren't plain.
     NotPlain(Vec<i32>),
+    /// Nothing: the declaration lets moments be so many seconds from their stamps, and not all of them were tried.
+    Tolerant(i32),
 }
 
 /// What a search found, and, where it gave up, what that says.
@@ -57,6 +61,7 @@ pub fn judge_records<W: Watch>(
     ensures { AreRecorded (transcript_of transcript.now)
         → DecidesRecords (transcript_of transcript.now) (declaration_of declaration.now) asked.budget asked.forced result }
 {
+    let grants = Grants::of(declaration);
     let mut deepest = Deepest::new(alloc, watch);
     let searched = search_records(
         alloc,
@@ -74,12 +79,23 @@ pub fn judge_records<W: Watch>(
             reached: None,
         }),
         Found::GaveUp(count) => {
-            let said = decide(alloc, transcript, asked.budget, *count)?;
+            let said = decide(alloc, transcript, grants, asked.budget, *count)?;
             let order = deepest.into_calls()?;
             let reached = deepest_place(alloc, transcript, declaration, &said, &order)?;
             Ok(Judged {
                 searched,
                 decision: Some(said),
+                reached,
+            })
+        }
+        Found::Refuted(count, object) => {
+            let named = String::from_str(alloc, object.as_str())?;
+            let said = decide(alloc, transcript, grants, asked.budget, *count)?;
+            let order = deepest.into_calls()?;
+            let reached = deepest_place(alloc, transcript, declaration, &said, &order)?;
+            Ok(Judged {
+                searched,
+                decision: Some(Decision::OneObject(named)),
                 reached,
             })
         }

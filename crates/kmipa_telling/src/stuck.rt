@@ -4,6 +4,7 @@ ghost use Rattle.std.specs.Prelude.{ℕ, Ok, Option, Some};
 ghost use Rattle.kmipa_record.specs.Declarations.{AreDeclared, declaration_of};
 ghost use Rattle.kmipa_record.specs.Marks.{AreRecorded};
 ghost use Rattle.kmipa_record.specs.Transcripts.{transcript_of};
+ghost use Rattle.kmipa_check.specs.Grants.{GrantsOf};
 ghost use Rattle.kmipa_search.specs.Reached.{HaveSteps};
 ghost use Rattle.kmipa_telling.specs.Deciding.{IsOfPlain, TellsDecision, TellsPlaceOf};
 
@@ -23,14 +24,16 @@ pub fn deepest_place(
     order: &[i32],
 ) -> Result<Option<Reached>, CheckFault>
     requires { AreDeclared (declaration_of declaration.now) }
-    ensures { (budget count : ℕ) → AreRecorded (transcript_of transcript.now)
-        → TellsDecision (transcript_of transcript.now) budget count (Ok said.now)
+    ensures { (g : GrantsOf) (budget count : ℕ) → AreRecorded (transcript_of transcript.now)
+        → TellsDecision (transcript_of transcript.now) g budget count (Ok said.now)
         → TellsPlaceOf (transcript_of transcript.now) (declaration_of declaration.now) (Some said.now) result }
 {
     match said {
         Decision::Decided => some_place(alloc, transcript, declaration, order),
         Decision::UsedUp(_) => some_place(alloc, transcript, declaration, order),
         Decision::NotPlain(_) => Ok(None),
+        Decision::Tolerant(_) => some_place(alloc, transcript, declaration, order),
+        Decision::OneObject(_) => Ok(None),
     }
 }
 
@@ -43,7 +46,7 @@ fn some_place(
 ) -> Result<Option<Reached>, CheckFault>
     requires { AreDeclared (declaration_of declaration.now) }
     ensures { AreRecorded (transcript_of transcript.now) → HaveSteps (transcript_of transcript.now)
-        → (said : Option Decision) → IsOfPlain said
+        → (said : Option Decision) → IsOfPlain (transcript_of transcript.now) said
         → TellsPlaceOf (transcript_of transcript.now) (declaration_of declaration.now) said result }
 {
     match reached(alloc, transcript, declaration, order) {

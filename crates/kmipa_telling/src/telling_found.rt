@@ -4,7 +4,7 @@ ghost use Rattle.std.specs.Prelude.{◌≡◌, IfOk, OnOk};
 ghost use Rattle.kmipa_json.specs.Told.{items_of, members_of};
 ghost use Rattle.kmipa_runs.specs.Searches.{found_status};
 ghost use Rattle.kmipa_telling.specs.Claims.{call_items};
-ghost use Rattle.kmipa_telling.specs.JsonSearches.{decision_members, found_members, steps_members};
+ghost use Rattle.kmipa_telling.specs.JsonSearches.{decision_members, found_members, steps_members, told_found};
 
 use crate::claims::calls_list;
 use crate::deepest_claims::tell_reached;
@@ -31,15 +31,29 @@ pub fn tell_judged(
             tell_steps(told, "yes", *count)?;
             Ok(Status::Done)
         }
-        Found::GaveUp(count) => {
-            tell_steps(told, "gave up", *count)?;
-            if let Some(decision) = &judged.decision {
-                tell_decision(alloc, told, decision)?;
-            }
-            tell_reached(alloc, told, &judged.reached)?;
-            Ok(Status::GaveUp)
-        }
+        Found::GaveUp(count) => tell_given_up(alloc, told, judged, *count),
+        Found::Refuted(count, _) => tell_given_up(alloc, told, judged, *count),
     }
+}
+
+/// Puts what a search that gave up says into an object.
+fn tell_given_up(
+    alloc: Global,
+    told: &mut JsonObject,
+    judged: &Judged,
+    count: u64,
+) -> Result<Status, AllocError>
+    ensures status { IfOk result (λ status. status ≡ found_status (Found.GaveUp count)) }
+    ensures told { OnOk result
+        (members_of told.new
+        ≡ told_found (Found.GaveUp count) judged.now.decision judged.now.reached (members_of told.old)) }
+{
+    tell_steps(told, "gave up", count)?;
+    if let Some(decision) = &judged.decision {
+        tell_decision(alloc, told, decision)?;
+    }
+    tell_reached(alloc, told, &judged.reached)?;
+    Ok(Status::GaveUp)
 }
 
 fn tell_steps(told: &mut JsonObject, verdict: &str, count: u64) -> Result<(), AllocError>
@@ -58,6 +72,10 @@ fn tell_decision(
 {
     match decision {
         Decision::Decided => told.put_truth("decided", true),
+        Decision::OneObject(object) => {
+            told.put_truth("decided", true)?;
+            told.put_text("object", object.as_str())
+        }
         Decision::UsedUp(steps) => {
             told.put_truth("decided", false)?;
             told.put_count("budget", *steps)
@@ -65,6 +83,10 @@ fn tell_decision(
         Decision::NotPlain(numbers) => {
             told.put_truth("decided", false)?;
             told.put_list("not_plain", calls_list(alloc, numbers)?)
+        }
+        Decision::Tolerant(seconds) => {
+            told.put_truth("decided", false)?;
+            told.put_integer("tolerance", i64::from(*seconds))
         }
     }
 }

@@ -4,7 +4,7 @@ ghost use Rattle.std.specs.Prelude.{◌≡◌, IfOk, OnOk};
 ghost use Rattle.kmipa_json.specs.Told.{items_of, members_of};
 ghost use Rattle.kmipa_telling.specs.Lists.{objects};
 ghost use Rattle.kmipa_telling.specs.EventClaims.{operation_members};
-ghost use Rattle.kmipa_telling.specs.UnfitClaims.{answer_members, answer_told, disordered_told, fill_told, given_told, kind_members, ordered_told, place_members, stands_told, unfit_members, unwanted_told, wrong_members};
+ghost use Rattle.kmipa_telling.specs.UnfitClaims.{answer_members, answer_told, birth_told, disordered_told, fill_told, given_told, kind_members, moment_told, ordered_told, place_members, stands_told, unfit_members, unwanted_told, wrong_members};
 
 use crate::causes::status_text;
 use crate::claims::calls_list;
@@ -13,7 +13,9 @@ use crate::naming_claims::number_object;
 use crate::unfit_phrases::wanted_text;
 use kmipa_json::{JsonList, JsonObject};
 use kmipa_msgs::{Outside, OutsideKind};
-use kmipa_unfit::{Disorder, OrderTold, Ordered, Unfit, Unwanted, WitnessExplanation, Wrong};
+use kmipa_unfit::{
+    Disorder, FarMoment, OrderTold, Ordered, Unfit, Unwanted, WitnessExplanation, Wrong,
+};
 use std::alloc::{AllocError, Global};
 
 /// The client, the turn and its call, what stands there, and what is wanted.
@@ -66,6 +68,7 @@ fn tell_given(alloc: Global, told: &mut JsonObject, unfit: &Unfit) -> Result<(),
         Unfit::Ended => told.put_truth("ended", true),
         Unfit::Open => told.put_truth("ended", false),
         Unfit::Answer(outside) => tell_answer(alloc, told, *outside),
+        Unfit::Untimely(far) => tell_moment(told, *far),
         Unfit::Ordered(ordered) => tell_ordered(alloc, told, ordered),
         Unfit::Disordered(disorder) => tell_disordered(alloc, told, disorder),
         _ => tell_fill(alloc, told, unfit),
@@ -85,7 +88,7 @@ fn tell_fill(alloc: Global, told: &mut JsonObject, unfit: &Unfit) -> Result<(), 
 {
     match unfit {
         Unfit::FillUnwanted(unwanted) => {
-            told.put_count("fill", unwanted.fill as u64)?;
+            told.put_count("fill", unwanted.number as u64)?;
             told.put_integer("item", unwanted.item as i64)?;
             tell_unwanted(alloc, told, unwanted.why)
         }
@@ -99,8 +102,36 @@ fn tell_fill(alloc: Global, told: &mut JsonObject, unfit: &Unfit) -> Result<(), 
             told.put_object("operation", operation_object(alloc, formless.operation)?)?;
             told.put_object("payload", kind_object(alloc, formless.kind)?)
         }
+        _ => tell_birth(alloc, told, unfit),
+    }
+}
+
+/// Puts a birth, or what is set aside, into an object.
+fn tell_birth(alloc: Global, told: &mut JsonObject, unfit: &Unfit) -> Result<(), AllocError>
+    ensures { OnOk result (members_of told.new ≡ birth_told unfit.now (members_of told.old)) }
+{
+    match unfit {
+        Unfit::BirthUnwanted(unwanted) => {
+            told.put_count("birth", unwanted.number as u64)?;
+            told.put_integer("item", unwanted.item as i64)?;
+            tell_unwanted(alloc, told, unwanted.why)
+        }
+        Unfit::BirthFormless(item) => {
+            told.put_count("birth", 1)?;
+            told.put_integer("item", *item as i64)
+        }
+        Unfit::Aside(item) => told.put_integer("set_aside", *item as i64),
         _ => Ok(()),
     }
+}
+
+/// Puts a moment, the Time Stamp, and how far they may be apart into an object.
+fn tell_moment(told: &mut JsonObject, far: FarMoment) -> Result<(), AllocError>
+    ensures { OnOk result (members_of told.new ≡ moment_told far (members_of told.old)) }
+{
+    told.put_integer("moment", far.moment)?;
+    told.put_integer("stamp", far.stamp)?;
+    told.put_integer("tolerance", far.tolerance as i64)
 }
 
 /// Operations by their numbers, and their names.
@@ -169,7 +200,7 @@ fn wrong_object(alloc: Global, wrong: Wrong) -> Result<JsonObject, AllocError>
     Ok(told)
 }
 
-/// Puts why a fill isn't wanted into an object.
+/// Puts why a fill or a birth isn't wanted into an object.
 fn tell_unwanted(alloc: Global, told: &mut JsonObject, why: Unwanted) -> Result<(), AllocError>
     ensures { OnOk result (members_of told.new ≡ unwanted_told why (members_of told.old)) }
 {
@@ -184,6 +215,6 @@ fn tell_unwanted(alloc: Global, told: &mut JsonObject, why: Unwanted) -> Result<
             told.put_object("asked", operation_object(alloc, asked)?)?;
             told.put_object("named", operation_object(alloc, answered)?)
         }
-        Unwanted::Second(fill) => told.put_count("named_before", fill as u64),
+        Unwanted::Second(number) => told.put_count("named_before", number as u64),
     }
 }

@@ -2,15 +2,15 @@
 
 ghost use Rattle.std.specs.Prelude.{◌≡◌, IfOk, flat_map, string_bytes, take};
 ghost use Rattle.kmipa_explain.specs.Meant.{text_of};
-ghost use Rattle.kmipa_telling.specs.UnfitLines.{asked_line, asked_lines, client_line, fill_lines, given_lines, named_line, place_lines, stands_lines, turn_line, unfit_lines};
+ghost use Rattle.kmipa_telling.specs.UnfitLines.{asked_line, asked_lines, birth_lines, client_line, fill_lines, given_lines, named_line, place_lines, stands_lines, turn_line, unfit_lines, unwanted_part_lines};
 
 use crate::phrases::{MOST, more_line, operation_text};
 use crate::unfit_phrases::{
-    answer_line, disorder_lines, fill_line, formless_lines, item_line, order_lines, unwanted_lines,
-    wanted_text,
+    answer_line, disorder_lines, formless_lines, item_line, moment_lines, order_lines, part_line,
+    unwanted_lines, wanted_text,
 };
 use kmipa_runs::quoted_text;
-use kmipa_unfit::{Unfit, WitnessExplanation};
+use kmipa_unfit::{Part, Unfit, UnwantedPart, WitnessExplanation};
 use std::alloc::{AllocError, Global};
 
 /// The client, the turn and its call, what stands there, and what is wanted.
@@ -89,6 +89,7 @@ fn given_lines(alloc: Global, unfit: &Unfit) -> Result<String, AllocError>
         Unfit::Ended => String::from_str(alloc, "answer: given\n"),
         Unfit::Open => String::from_str(alloc, "answer: none\n"),
         Unfit::Answer(outside) => answer_line(alloc, *outside),
+        Unfit::Untimely(far) => moment_lines(alloc, *far),
         Unfit::Ordered(ordered) => order_lines(alloc, ordered),
         Unfit::Disordered(disorder) => disorder_lines(alloc, disorder),
         _ => fill_lines(alloc, unfit),
@@ -100,19 +101,46 @@ fn fill_lines(alloc: Global, unfit: &Unfit) -> Result<String, AllocError>
     ensures { IfOk result (λ text. string_bytes text ≡ fill_lines unfit.now) }
 {
     match unfit {
-        Unfit::FillUnwanted(unwanted) => {
-            let fill = fill_line(alloc, unwanted.fill, unwanted.item)?;
-            let why = unwanted_lines(alloc, unwanted.why)?;
-            format!(in alloc; "{fill}{why}")
-        }
+        Unfit::FillUnwanted(unwanted) => unwanted_part_lines(alloc, Part::Fill, *unwanted),
         Unfit::FillMissing(missing) => {
             let item = item_line(alloc, missing.item)?;
             let operation = asked_line(alloc, missing.operation)?;
             format!(in alloc; "{item}{operation}")
         }
         Unfit::FillFormless(formless) => formless_lines(alloc, *formless),
+        _ => birth_lines(alloc, unfit),
+    }
+}
+
+/// The lines of a birth, or of what is set aside.
+fn birth_lines(alloc: Global, unfit: &Unfit) -> Result<String, AllocError>
+    ensures { IfOk result (λ text. string_bytes text ≡ birth_lines unfit.now) }
+{
+    match unfit {
+        Unfit::BirthUnwanted(unwanted) => unwanted_part_lines(alloc, Part::Birth, *unwanted),
+        Unfit::BirthFormless(item) => {
+            let birth = part_line(alloc, Part::Birth, 1, *item)?;
+            format!(in alloc; "{birth}may be given: no attribute\n")
+        }
+        Unfit::Aside(item) => {
+            let item = *item;
+            format!(in alloc; "set aside: item {item}\n")
+        }
         _ => Ok(String::new(alloc)),
     }
+}
+
+/// The lines of a fill or a birth that isn't wanted.
+fn unwanted_part_lines(
+    alloc: Global,
+    part: Part,
+    unwanted: UnwantedPart,
+) -> Result<String, AllocError>
+    ensures { IfOk result (λ text. string_bytes text ≡ unwanted_part_lines part unwanted) }
+{
+    let named = part_line(alloc, part, unwanted.number, unwanted.item)?;
+    let why = unwanted_lines(alloc, part, unwanted.why)?;
+    format!(in alloc; "{named}{why}")
 }
 
 /// The lines of the operations that a call asks for, at most twenty, and how many more there are.

@@ -2,12 +2,14 @@
 
 ghost use Rattle.std.specs.Prelude.{◌≡◌, IfOk, flat_map, string_bytes, take};
 ghost use Rattle.kmipa_telling.specs.Phrases.{numbered};
-ghost use Rattle.kmipa_telling.specs.UnfitPhrases.{answer_line, answered_line, disorder_lines, fill_line, fill_wanted_text, formless_lines, item_line, order_lines, order_wanted_text, order_why_line, places_line, unwanted_lines, wanted_text, wrong_line};
+ghost use Rattle.kmipa_telling.specs.UnfitPhrases.{answer_line, answered_line, birth_wanted_text, disorder_lines, fill_wanted_text, formless_lines, item_line, moment_line, moment_lines, needless_text, order_lines, order_wanted_text, order_why_line, part_line, part_name, places_line, stamp_line, tolerance_line, unwanted_lines, wanted_text, wrong_line};
 
 use crate::causes::status_text;
 use crate::phrases::{MOST, more_text, numbers_text, operation_text};
 use kmipa_msgs::Outside;
-use kmipa_unfit::{Disorder, FormlessFill, OrderTold, Ordered, Unfit, Unwanted, Wrong};
+use kmipa_unfit::{
+    Disorder, FarMoment, FormlessFill, OrderTold, Ordered, Part, Unfit, Unwanted, Wrong,
+};
 use std::alloc::{AllocError, Global};
 
 /// Where an answer is outside.
@@ -92,13 +94,62 @@ fn wrong_line(alloc: Global, wrong: Wrong) -> Result<String, AllocError>
     }
 }
 
-// ---- fills
+// ---- moments
 
-/// Which fill it is, and for which item.
-pub fn fill_line(alloc: Global, fill: usize, item: i32) -> Result<String, AllocError>
-    ensures { IfOk result (λ text. string_bytes text ≡ fill_line fill item) }
+/// A moment, the Time Stamp, and how far they may be apart.
+pub fn moment_lines(alloc: Global, far: FarMoment) -> Result<String, AllocError>
+    ensures { IfOk result (λ text. string_bytes text ≡ moment_lines far) }
 {
-    format!(in alloc; "fill: {fill}, for item {item}\n")
+    let moment = moment_line(alloc, far.moment)?;
+    let stamp = stamp_line(alloc, far.stamp)?;
+    let tolerance = tolerance_line(alloc, far.tolerance)?;
+    format!(in alloc; "{moment}{stamp}{tolerance}")
+}
+
+fn moment_line(alloc: Global, moment: i64) -> Result<String, AllocError>
+    ensures { IfOk result (λ text. string_bytes text ≡ moment_line moment) }
+{
+    format!(in alloc; "moment: {moment} seconds since 1970\n")
+}
+
+fn stamp_line(alloc: Global, stamp: i64) -> Result<String, AllocError>
+    ensures { IfOk result (λ text. string_bytes text ≡ stamp_line stamp) }
+{
+    format!(in alloc; "Time Stamp: {stamp} seconds since 1970\n")
+}
+
+fn tolerance_line(alloc: Global, tolerance: i32) -> Result<String, AllocError>
+    ensures { IfOk result (λ text. string_bytes text ≡ tolerance_line tolerance) }
+{
+    format!(in alloc; "tolerance: {tolerance} seconds\n")
+}
+
+// ---- fills and births
+
+fn part_name(part: Part) -> &'static str
+    ensures { result.now ≡ part_name part }
+{
+    match part {
+        Part::Fill => "fill",
+        Part::Birth => "birth",
+    }
+}
+
+/// Which fill or birth it is, and for which item.
+pub fn part_line(alloc: Global, part: Part, number: usize, item: i32) -> Result<String, AllocError>
+    ensures { IfOk result (λ text. string_bytes text ≡ part_line part number item) }
+{
+    let name = part_name(part);
+    format!(in alloc; "{name}: {number}, for item {item}\n")
+}
+
+fn needless_text(part: Part) -> &'static str
+    ensures { result.now ≡ needless_text part }
+{
+    match part {
+        Part::Fill => "whose payload is never wanted",
+        Part::Birth => "which makes no object",
+    }
 }
 
 /// Which item it is.
@@ -108,9 +159,9 @@ pub fn item_line(alloc: Global, item: usize) -> Result<String, AllocError>
     format!(in alloc; "item: {item}\n")
 }
 
-/// Why a fill isn't wanted.
-pub fn unwanted_lines(alloc: Global, why: Unwanted) -> Result<String, AllocError>
-    ensures { IfOk result (λ text. string_bytes text ≡ unwanted_lines why) }
+/// Why a fill or a birth isn't wanted.
+pub fn unwanted_lines(alloc: Global, part: Part, why: Unwanted) -> Result<String, AllocError>
+    ensures { IfOk result (λ text. string_bytes text ≡ unwanted_lines part why) }
 {
     match why {
         Unwanted::Unanswered(answered) => answered_line(alloc, answered),
@@ -121,14 +172,18 @@ pub fn unwanted_lines(alloc: Global, why: Unwanted) -> Result<String, AllocError
         Unwanted::Present => String::from_str(alloc, "payload: there\n"),
         Unwanted::Needless(number) => {
             let operation = operation_text(alloc, number)?;
-            format!(in alloc; "operation: {operation}, whose payload is never wanted\n")
+            let needless = needless_text(part);
+            format!(in alloc; "operation: {operation}, {needless}\n")
         }
         Unwanted::Operations(asked, answered) => {
             let one = operation_text(alloc, asked)?;
             let other = operation_text(alloc, answered)?;
             format!(in alloc; "asked: {one}\nanswered: {other}\n")
         }
-        Unwanted::Second(fill) => format!(in alloc; "named before: fill {fill}\n"),
+        Unwanted::Second(number) => {
+            let name = part_name(part);
+            format!(in alloc; "named before: {name} {number}\n")
+        }
     }
 }
 
@@ -164,6 +219,10 @@ pub fn wanted_text(unfit: &Unfit) -> &'static str
         Unfit::FillUnwanted(unwanted) => fill_wanted_text(unwanted.why),
         Unfit::FillMissing(_) => "a fill with the item's Response Payload",
         Unfit::FillFormless(_) => "a Response Payload of this operation",
+        Unfit::Untimely(_) => "a moment within the tolerance",
+        Unfit::BirthUnwanted(unwanted) => birth_wanted_text(unwanted.why),
+        Unfit::BirthFormless(_) => "no birth",
+        Unfit::Aside(_) => "no item that is set aside",
     }
 }
 
@@ -182,5 +241,14 @@ fn fill_wanted_text(why: Unwanted) -> &'static str
     match why {
         Unwanted::Second(_) => "one fill for an item",
         _ => "no fill for this item",
+    }
+}
+
+fn birth_wanted_text(why: Unwanted) -> &'static str
+    ensures { result.now ≡ birth_wanted_text why }
+{
+    match why {
+        Unwanted::Second(_) => "one birth for an item",
+        _ => "no birth for this item",
     }
 }

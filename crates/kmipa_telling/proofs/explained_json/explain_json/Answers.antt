@@ -12,13 +12,13 @@ returns-in-Ok-clause-prints g c =
     let d = c.explain_held.new.declaration in
     let w = c.explain_held.new.witness in
     let lines = appended_bytes c.args.out.now.items c.append.new.out.items in
-    printed_explained t d w c.in-Ok.outcome c.append.result lines c.in-Ok.ensures.explains
-    (explained_printed c.lines_of-lines.result t d w c.in-Ok.outcome c.append.result lines c.lines_of-lines.ensures c.append.ensures.prints)
+    printed_explained c.args.torn t d w c.in-Ok.outcome c.append.result lines c.in-Ok.ensures.explains
+    (explained_printed c.args.torn c.lines_of-lines.result t d w c.in-Ok.outcome c.append.result lines c.lines_of-lines.ensures c.append.ensures.prints)
 
 pub returns-in-Ok-clause-accepts : goal.returns-in-Ok-clause-accepts
 returns-in-Ok-clause-accepts g c = λ done.
     let lines = appended_bytes c.args.out.now.items c.append.new.out.items in
-    done_is_explained c.explain_held.new.transcript c.explain_held.new.declaration c.explain_held.new.witness c.append.result lines (returns-in-Ok-clause-prints g c) done
+    done_is_explained c.args.torn c.explain_held.new.transcript c.explain_held.new.declaration c.explain_held.new.witness c.append.result lines (returns-in-Ok-clause-prints g c) done
 
 pub returns-in-Ok-clause-known : goal.returns-in-Ok-clause-known
 returns-in-Ok-clause-known g c =
@@ -26,8 +26,8 @@ returns-in-Ok-clause-known g c =
     let d = c.explain_held.new.declaration in
     let w = c.explain_held.new.witness in
     let lines = appended_bytes c.args.out.now.items c.append.new.out.items in
-    check_knows t d w c.in-Ok.outcome c.append.result lines c.explained_head.result c.explained_head.ensures c.in-Ok.ensures.known
-    (explained_printed c.lines_of-lines.result t d w c.in-Ok.outcome c.append.result lines c.lines_of-lines.ensures c.append.ensures.prints)
+    check_knows c.args.torn t d w c.in-Ok.outcome c.append.result lines c.explained_head.result c.explained_head.ensures c.in-Ok.ensures.known
+    (explained_printed c.args.torn c.lines_of-lines.result t d w c.in-Ok.outcome c.append.result lines c.lines_of-lines.ensures c.append.ensures.prints)
 
 pub returns-clause-prints : goal.returns-clause-prints
 returns-clause-prints g c = inr (only_silent c.append-in-Err.ensures.prints)

@@ -57,7 +57,7 @@ returns-in-Err-clause-fits g c =
     let w = c.explain_inputs.new.witness in
     let lines = appended_bytes c.args.out.now.items c.append-in-Err.new.out.items in
     let audits = c.in-Err.ensures.audits (came_of t) (came_of d) (came_of w) (itself t) (itself d) (itself w) in
-    told_fits c.in-Err.told (came_of t) (came_of w) c.append-in-Err.result lines audits.1
+    told_fits c.in-Err.told (came_of t) (came_of d) (came_of w) c.append-in-Err.result lines audits.1
     (explained_reported c.fault_told_lines.result (Err c.in-Err.told) c.append-in-Err.result lines c.fault_told_lines.ensures c.append-in-Err.ensures.prints)
 
 pub returns-in-Err-clause-yes : goal.returns-in-Err-clause-yes

@@ -11,13 +11,13 @@ returns-in-Ok-clause-prints g c =
     let d = c.audit_held.new.declaration in
     let w = c.audit_held.new.witness in
     let lines = appended_bytes c.args.out.now.items c.append.new.out.items in
-    printed_check t d w c.in-Ok.outcome c.append.result lines c.in-Ok.ensures.audits
-    (json_reported c.lines_of-lines.result t d w c.in-Ok.outcome c.append.result lines c.lines_of-lines.ensures c.append.ensures.prints)
+    printed_check c.args.torn t d w c.in-Ok.outcome c.append.result lines c.in-Ok.ensures.audits
+    (json_reported c.args.torn c.lines_of-lines.result t d w c.in-Ok.outcome c.append.result lines c.lines_of-lines.ensures c.append.ensures.prints)
 
 pub returns-in-Ok-clause-accepts : goal.returns-in-Ok-clause-accepts
 returns-in-Ok-clause-accepts g c = λ done.
     let lines = appended_bytes c.args.out.now.items c.append.new.out.items in
-    done_is_judged c.audit_held.new.transcript c.audit_held.new.declaration c.audit_held.new.witness c.append.result lines (returns-in-Ok-clause-prints g c) done
+    done_is_judged c.args.torn c.audit_held.new.transcript c.audit_held.new.declaration c.audit_held.new.witness c.append.result lines (returns-in-Ok-clause-prints g c) done
 
 pub returns-in-Ok-clause-known : goal.returns-in-Ok-clause-known
 returns-in-Ok-clause-known g c =
@@ -25,8 +25,8 @@ returns-in-Ok-clause-known g c =
     let d = c.audit_held.new.declaration in
     let w = c.audit_held.new.witness in
     let lines = appended_bytes c.args.out.now.items c.append.new.out.items in
-    audit_knows t d w c.in-Ok.outcome c.append.result lines c.audit_head.result c.audit_head.ensures c.in-Ok.ensures.known
-    (json_reported c.lines_of-lines.result t d w c.in-Ok.outcome c.append.result lines c.lines_of-lines.ensures c.append.ensures.prints)
+    audit_knows c.args.torn t d w c.in-Ok.outcome c.append.result lines c.audit_head.result c.audit_head.ensures c.in-Ok.ensures.known
+    (json_reported c.args.torn c.lines_of-lines.result t d w c.in-Ok.outcome c.append.result lines c.lines_of-lines.ensures c.append.ensures.prints)
 
 pub returns-clause-prints : goal.returns-clause-prints
 returns-clause-prints g c = inr (only_silent c.append-in-Err.ensures.prints)

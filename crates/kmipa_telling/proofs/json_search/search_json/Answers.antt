@@ -12,14 +12,14 @@ returns-in-Ok-clause-prints g c =
     let d = c.search_held.new.declaration in
     let lines = appended_bytes c.args.out.now.items c.append_both.new.out.items in
     let made = appended_bytes c.args.made.now.items c.append_both.new.made.items in
-    printed_search t d c.args.budget c.args.forced c.in-Ok.outcome c.append_both.result lines made c.in-Ok.ensures.decides
-    (search_reported c.told_of-answer.result t d c.in-Ok.outcome c.append_both.result lines made c.told_of-answer.ensures c.append_both.ensures.appended)
+    printed_search c.args.torn t d c.args.budget c.args.forced c.in-Ok.outcome c.append_both.result lines made c.in-Ok.ensures.decides
+    (search_reported c.args.torn c.told_of-answer.result t d c.in-Ok.outcome c.append_both.result lines made c.told_of-answer.ensures c.append_both.ensures.appended)
 
 pub returns-in-Ok-clause-accepts : goal.returns-in-Ok-clause-accepts
 returns-in-Ok-clause-accepts g c = λ done.
     let lines = appended_bytes c.args.out.now.items c.append_both.new.out.items in
     let made = appended_bytes c.args.made.now.items c.append_both.new.made.items in
-    done_is_found c.search_held.new.transcript c.search_held.new.declaration c.args.budget c.args.forced c.append_both.result lines made (returns-in-Ok-clause-prints g c) done
+    done_is_found c.args.torn c.search_held.new.transcript c.search_held.new.declaration c.args.budget c.args.forced c.append_both.result lines made (returns-in-Ok-clause-prints g c) done
 
 pub returns-in-Ok-clause-known : goal.returns-in-Ok-clause-known
 returns-in-Ok-clause-known g c =
@@ -27,8 +27,8 @@ returns-in-Ok-clause-known g c =
     let d = c.search_held.new.declaration in
     let lines = appended_bytes c.args.out.now.items c.append_both.new.out.items in
     let made = appended_bytes c.args.made.now.items c.append_both.new.made.items in
-    search_knows t d c.in-Ok.outcome c.append_both.result lines made c.search_held.new.held.head c.in-Ok.ensures.known
-    (search_reported c.told_of-answer.result t d c.in-Ok.outcome c.append_both.result lines made c.told_of-answer.ensures c.append_both.ensures.appended)
+    search_knows c.args.torn t d c.in-Ok.outcome c.append_both.result lines made c.search_held.new.held.head c.in-Ok.ensures.known
+    (search_reported c.args.torn c.told_of-answer.result t d c.in-Ok.outcome c.append_both.result lines made c.told_of-answer.ensures c.append_both.ensures.appended)
 
 pub returns-in-Err-clause-prints : goal.returns-in-Err-clause-prints
 returns-in-Err-clause-prints g c = inr (only_silent c.append_both-in-Err.ensures.appended)

@@ -1,19 +1,40 @@
+use Rattle.std.proofs.Common.{◌∙◌, Ok, subst}
 use Rattle.std.proofs.lemmas.Result.{err_from_is_err_and}
 use Rattle.kmipa_record.specs.Declarations.{declaration_of}
 use Rattle.kmipa_record.specs.Transcripts.{transcript_of}
-use Rattle.kmipa_telling.proofs.DecidingLemmas.{given_up_told, memory_stops}
+use Rattle.kmipa_check.specs.Grants.{GrantsOf, grants_declared}
+use Rattle.kmipa_telling.specs.Deciding.{TellsDecision}
+use Rattle.kmipa_telling.proofs.DecidingLemmas.{given_up_told, memory_stops, refuted_told}
 use Rattle.kmipa_telling.proofs.judged.judge_records.Goals as goal
 
 pub returns-in_ok-reached-in-GaveUp : goal.returns-in_ok-reached-in-GaveUp
 returns-in_ok-reached-in-GaveUp g c = λ recorded.
-    let tells = c.in_ok-said-in-GaveUp.ensures recorded in
+    let G : GrantsOf → Type 0 = λ given. TellsDecision (transcript_of c.args.transcript.now) given c.args.asked.budget c.in-GaveUp.count (Ok c.in_ok-said-in-GaveUp.said) in
+    let tells = subst G c.of-grants.ensures (c.in_ok-said-in-GaveUp.ensures recorded) in
     given_up_told (transcript_of c.args.transcript.now) (declaration_of c.args.declaration.now) c.args.asked.budget c.args.asked.forced c.in_ok-searched.searched
     (c.in_ok-searched.ensures recorded) c.in-GaveUp.count c.in_ok-said-in-GaveUp.said c.in_ok-reached-in-GaveUp.reached recorded c.in-GaveUp.is tells
-    (c.in_ok-reached-in-GaveUp.ensures c.args.asked.budget c.in-GaveUp.count recorded tells)
+    (c.in_ok-reached-in-GaveUp.ensures (grants_declared (declaration_of c.args.declaration.now)) c.args.asked.budget c.in-GaveUp.count recorded tells)
 
 pub returns-in_err-reached-in-GaveUp : goal.returns-in_err-reached-in-GaveUp
 returns-in_err-reached-in-GaveUp g c =
     let p = err_from_is_err_and c.from_residual-in_err-reached-in-GaveUp.result c.from_residual-in_err-reached-in-GaveUp.ensures.1 in
     let fault = c.in_err-reached-in-GaveUp.field-0.0 in
+    let G : GrantsOf → Type 0 = λ given. TellsDecision (transcript_of c.args.transcript.now) given c.args.asked.budget c.in-GaveUp.count (Ok c.in_ok-said-in-GaveUp.said) in
     rw (p.1, p.2) (λ recorded. memory_stops (transcript_of c.args.transcript.now) fault
-    (c.in_err-reached-in-GaveUp.ensures c.args.asked.budget c.in-GaveUp.count recorded (c.in_ok-said-in-GaveUp.ensures recorded)))
+    (c.in_err-reached-in-GaveUp.ensures (grants_declared (declaration_of c.args.declaration.now)) c.args.asked.budget c.in-GaveUp.count recorded (subst G c.of-grants.ensures (c.in_ok-said-in-GaveUp.ensures recorded))))
+
+pub returns-in_ok-reached-in-Refuted : goal.returns-in_ok-reached-in-Refuted
+returns-in_ok-reached-in-Refuted g c = λ recorded.
+    let G : GrantsOf → Type 0 = λ given. TellsDecision (transcript_of c.args.transcript.now) given c.args.asked.budget c.in-Refuted.count (Ok c.in_ok-said-in-Refuted.said) in
+    let tells = subst G c.of-grants.ensures (c.in_ok-said-in-Refuted.ensures recorded) in
+    refuted_told (transcript_of c.args.transcript.now) (declaration_of c.args.declaration.now) c.args.asked.budget c.args.asked.forced c.in_ok-searched.searched
+    (c.in_ok-searched.ensures recorded) c.in-Refuted.count c.in-Refuted.object c.in_ok-named-in-Refuted.named c.in_ok-said-in-Refuted.said c.in_ok-reached-in-Refuted.reached recorded c.in-Refuted.is (c.in_ok-named-in-Refuted.ensures.ok ∙ c.as_str.ensures.value) tells
+    (c.in_ok-reached-in-Refuted.ensures (grants_declared (declaration_of c.args.declaration.now)) c.args.asked.budget c.in-Refuted.count recorded tells)
+
+pub returns-in_err-reached-in-Refuted : goal.returns-in_err-reached-in-Refuted
+returns-in_err-reached-in-Refuted g c =
+    let p = err_from_is_err_and c.from_residual-in_err-reached-in-Refuted.result c.from_residual-in_err-reached-in-Refuted.ensures.1 in
+    let fault = c.in_err-reached-in-Refuted.field-0.0 in
+    let G : GrantsOf → Type 0 = λ given. TellsDecision (transcript_of c.args.transcript.now) given c.args.asked.budget c.in-Refuted.count (Ok c.in_ok-said-in-Refuted.said) in
+    rw (p.1, p.2) (λ recorded. memory_stops (transcript_of c.args.transcript.now) fault
+    (c.in_err-reached-in-Refuted.ensures (grants_declared (declaration_of c.args.declaration.now)) c.args.asked.budget c.in-Refuted.count recorded (subst G c.of-grants.ensures (c.in_ok-said-in-Refuted.ensures recorded))))
