@@ -10,6 +10,7 @@ use Rattle.kmipa_record.specs.Declarations.{AreDeclared, DeclarationOf, declarat
 use Rattle.kmipa_record.specs.Witnesses.{TurnOf, witness_of, IsWitness}
 use Rattle.kmipa_record.specs.declared.transcript.Transcript.{Transcript}
 use Rattle.kmipa_record.specs.declared.witness.Witness.{Witness}
+use Rattle.kmipa_check.specs.Grants.{GrantsOf, grants_declared}
 use Rattle.kmipa_check.specs.Calls.{AreCalls}
 use Rattle.kmipa_check.specs.Described.{Describes}
 use Rattle.kmipa_check.specs.Left.{IsLeft, LeavesDeclaration, LeavesAtYes}
@@ -26,16 +27,21 @@ use Rattle.kmipa_check.specs.declared.verdict.Verdict.TheVariants as verdict
 use Rattle.kmipa_check.proofs.JoinLemmas.{joined_begun_lem, recorded_begun_lem}
 use Rattle.kmipa_check.proofs.SegmentLemmas.{accepted_behind_lem, segments_join_lem}
 use Rattle.kmipa_search.specs.declared.found.Found.{Found}
-use Rattle.kmipa_search.specs.declared.found.Found.TheVariants.{Yes, GaveUp}
+use Rattle.kmipa_search.specs.declared.found.Found.TheVariants.{Yes, GaveUp, Refuted}
 use Rattle.kmipa_runs.specs.Lines.{PrintsVerdict}
 use Rattle.kmipa_runs.specs.Searches.{found_status, SearchStops}
 use Rattle.kmipa_runs.specs.Statuses.{IsSilent}
 use Rattle.kmipa_runs.specs.declared.status.Status.{Status}
 use Rattle.kmipa_runs.specs.declared.status.Status.TheVariants as status
 use Rattle.kmipa_runs.proofs.LineLemmas.{done_is_yes}
-use Rattle.kmipa_segments.specs.Chains.{AreChained, AreCheckedNext, AreSearchedNext, AreUncheckedNext, AreUnsearchedNext, GoesOn, GoesOnBy, GoesOnSomehow, IsJoined, IsSomeDeclared, LeavesWhereFound}
+use Rattle.kmipa_links.specs.declared.links.Links.{Links}
+use Rattle.kmipa_segments.specs.Chains.{AreChained, AreCheckedNext, AreReadNext, AreSearchedNext, AreUncheckedNext, AreUnsearchedNext, GoesOn, GoesOnBy, GoesOnSomehow, IsJoined, IsSomeDeclared, IsUnreadNext, LeavesWhereFound, NextFails, SearchesNext}
 use Rattle.kmipa_segments.specs.SegmentSearches.{FindsSince, SearchesSegment}
+use Rattle.kmipa_check.specs.declared.auditing.AuditFault.TheVariants as audit
+use Rattle.kmipa_segments.specs.declared.chain.Chain.{Chain}
 use Rattle.kmipa_segments.specs.declared.next.NextSegment.{NextSegment}
+use Rattle.kmipa_segments.specs.declared.next.Unjudged.{Unjudged}
+use Rattle.kmipa_segments.specs.declared.next.Unjudged.TheVariants.{Fault, Gap}
 use Rattle.kmipa_segments.specs.declared.segment_search.FoundSegment.{FoundSegment}
 use Rattle.kmipa_segments.proofs.LeavingLemmas.{handed_at_yes, handed_out, yes_hands_out}
 
@@ -44,8 +50,8 @@ use Rattle.kmipa_segments.proofs.LeavingLemmas.{handed_at_yes, handed_out, yes_h
 nothing_begun : HaveBegun []
 nothing_begun number end answered h = absurd cc
 
-no_order : IsOrder [] [] []
-no_order = record {
+no_order : (g : GrantsOf) → IsOrder g [] [] []
+no_order g = record {
   counted = refl;
   formed = λ place s h. absurd cc;
   all = λ c end known ended. absurd (omega (arith, known.1));
@@ -65,6 +71,7 @@ nothing_done : (declared : DeclarationOf) → AreDeclared declared → IsLeft de
 nothing_done declared a = record {
   objects = a;
   rules = refl;
+  grants = refl;
   exactly = λ last. (
     λ described. (last, described, refl),
     λ ends. subst (Describes declared) (sym ends.2) ends.1,
@@ -75,7 +82,7 @@ pub begins : (held : Left) → AreDeclared (declaration_of held.declaration) →
 begins held a never = record {
   begun = nothing_begun;
   leads = record {
-    run = record { calls = []; are = no_calls; steps = []; order = no_order; placed = no_steps; leaves = nothing_done (declaration_of held.declaration) a };
+    run = record { calls = []; are = no_calls; steps = []; order = no_order (grants_declared (declaration_of held.declaration)); placed = no_steps; leaves = nothing_done (declaration_of held.declaration) a };
     since_then = tt;
     last = never;
   };
@@ -99,24 +106,48 @@ module _ (held next : Left) (marks : List MarkOf) (turns : List TurnOf) (r : Are
   goes_on : GoesOn held next marks turns
   goes_on = record { accepted = a; leads = l; joined = joins }
 
+-- ---- a segment that is read and linked
+
+-- its bytes are those of the file, where its end was seen
+pub read_whole : {R : Type 0} (t : List ℕ) (input : Input R) (links next : Links) (name : List ℕ) (marks : List MarkOf) → IsTrue (is_ended input) → IsFileOf t input
+    → AreReadNext links next name (came_of input) marks → AreReadNext links next name t marks
+read_whole t input links next name marks ended is r = let P : List ℕ → Type 0 = λ b. AreReadNext links next name b marks in whole_file t input P ended is r
+
+-- why it isn't read, where it is to be checked, or searched
+pub unread_check : (chain : Chain) (name t w : List ℕ) (failed_t failed_w : Bool) (u : Unjudged) → IsUnreadNext chain.links name t failed_t u → NextFails chain name t w failed_t failed_w u
+unread_check chain name t w failed_t failed_w (Fault (audit.Transcript f)) h = h
+unread_check chain name t w failed_t failed_w (Fault (audit.Declaration f)) h = absurd h
+unread_check chain name t w failed_t failed_w (Fault (audit.Witness f)) h = absurd h
+unread_check chain name t w failed_t failed_w (Fault (audit.Check f)) h = absurd h
+unread_check chain name t w failed_t failed_w (Gap gap) h = h
+
+pub unread_search : (chain : Chain) (next : Links) (name t : List ℕ) (failed_t : Bool) (budget : ℕ) (u : Unjudged) → IsUnreadNext chain.links name t failed_t u
+    → SearchesNext chain next name t failed_t budget (Err u)
+unread_search chain next name t failed_t budget (Fault (audit.Transcript f)) h = h
+unread_search chain next name t failed_t budget (Fault (audit.Declaration f)) h = absurd h
+unread_search chain next name t failed_t budget (Fault (audit.Witness f)) h = absurd h
+unread_search chain next name t failed_t budget (Fault (audit.Check f)) h = absurd h
+unread_search chain next name t failed_t budget (Gap gap) h = h
+
 -- ---- what is checked
 
-module _ (held : Left) (segment : NextSegment) (t w : List ℕ) (c : AreCheckedNext held segment t w) where
+module _ (chain : Chain) (links : Links) (name : List ℕ) (segment : NextSegment) (t w : List ℕ) (c : AreCheckedNext chain links name segment t w) where
   abbrev LeadsTo : Left → Type 0
-  LeadsTo left = Leads (declaration_of held.declaration) held.until (transcript_of segment.transcript) (witness_of segment.witness) (declaration_of left.declaration) left.until
+  LeadsTo left = Leads (declaration_of chain.held.declaration) chain.held.until (transcript_of segment.transcript) (witness_of segment.witness) (declaration_of left.declaration) left.until
 
-  pub goes_on_by : (next : Left) → segment.checked.left ≡ Some next → GoesOnBy held next t w
-  goes_on_by next is =
+  pub goes_on_by : (next : Chain) → segment.checked.left ≡ Some next.held → next.links ≡ links → GoesOnBy chain next name t w
+  goes_on_by next is same =
       let H : Left → Type 0 = λ left. LeadsTo left in
-      let P : Verdict → Type 0 = λ v. ChecksSince (transcript_of segment.transcript) (declaration_of held.declaration) held.until (witness_of segment.witness) (Ok v) in
+      let P : Verdict → Type 0 = λ v. ChecksSince (transcript_of segment.transcript) (declaration_of chain.held.declaration) chain.held.until (witness_of segment.witness) (Ok v) in
+      let L : Links → Type 0 = λ l. AreReadNext chain.links l name t (transcript_of segment.transcript) in
       record {
         marks = transcript_of segment.transcript;
-        transcript = c.transcript;
+        read = subst L (sym same) c.read;
         turns = witness_of segment.witness;
         witness = c.witness;
-        goes_on = goes_on held next (transcript_of segment.transcript) (witness_of segment.witness) c.transcript.recorded
-            (subst P (handed_at_yes segment.checked.verdict segment.checked.left next H is c.leads) c.verdict)
-            (handed_out segment.checked.verdict segment.checked.left next H is c.leads);
+        goes_on = goes_on chain.held next.held (transcript_of segment.transcript) (witness_of segment.witness) c.read.transcript.recorded
+            (subst P (handed_at_yes segment.checked.verdict segment.checked.left next.held H is c.leads) c.verdict)
+            (handed_out segment.checked.verdict segment.checked.left next.held H is c.leads);
       }
 
   -- what is left may be declared
@@ -146,6 +177,8 @@ module _ (marks : List MarkOf) (declared : DeclarationOf) (since : Option ℤ) (
   found_to (Yes witness count) None left is finds = absurd finds
   found_to (GaveUp count) (Some other) left is finds = absurd finds
   found_to (GaveUp count) None left is finds = absurd cc
+  found_to (Refuted count object) (Some other) left is finds = absurd finds
+  found_to (Refuted count object) None left is finds = absurd cc
 
   declared_where : (found : Found) (handed : Option Left) → FindsSince marks declared since budget found handed
       → LeavesWhereFound found handed (λ (left : Left). AreDeclared (declaration_of left.declaration))
@@ -153,12 +186,20 @@ module _ (marks : List MarkOf) (declared : DeclarationOf) (since : Option ℤ) (
   declared_where (Yes witness count) None finds = finds
   declared_where (GaveUp count) (Some left) finds = finds
   declared_where (GaveUp count) None finds = tt
+  declared_where (Refuted count object) (Some left) finds = finds
+  declared_where (Refuted count object) None finds = tt
 
-module _ (held : Left) (segment : FoundSegment) (t : List ℕ) (budget : ℕ) (s : AreSearchedNext held segment t budget) where
-  pub goes_on_somehow : (next : Left) → segment.left ≡ Some next → GoesOnSomehow held next t
-  goes_on_somehow next is =
-      let f = found_to s.marks (declaration_of held.declaration) held.until budget segment.searched.found segment.left next is s.found.1 in
-      record { marks = s.marks; transcript = s.transcript; turns = f.turns; goes_on = goes_on held next s.marks f.turns s.transcript.recorded f.accepted f.leads }
+module _ (chain : Chain) (links : Links) (name : List ℕ) (segment : FoundSegment) (t : List ℕ) (budget : ℕ) (s : AreSearchedNext chain links name segment t budget) where
+  pub goes_on_somehow : (next : Chain) → segment.left ≡ Some next.held → next.links ≡ links → GoesOnSomehow chain next name t
+  goes_on_somehow next is same =
+      let f = found_to s.marks (declaration_of chain.held.declaration) chain.held.until budget segment.searched.found segment.left next.held is s.found.1 in
+      let L : Links → Type 0 = λ l. AreReadNext chain.links l name t s.marks in
+      record {
+        marks = s.marks;
+        read = subst L (sym same) s.read;
+        turns = f.turns;
+        goes_on = goes_on chain.held next.held s.marks f.turns s.read.transcript.recorded f.accepted f.leads;
+      }
 
   pub leaves_where_found : LeavesWhereFound segment.searched.found segment.left (λ (left : Left). AreDeclared (declaration_of left.declaration))
-  leaves_where_found = declared_where s.marks (declaration_of held.declaration) held.until budget segment.searched.found segment.left s.found.1
+  leaves_where_found = declared_where s.marks (declaration_of chain.held.declaration) chain.held.until budget segment.searched.found segment.left s.found.1

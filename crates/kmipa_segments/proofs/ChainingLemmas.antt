@@ -1,29 +1,40 @@
 -- A chain and one segment more.
-use Rattle.std.proofs.Common.{◌≡◌, ◌<◌, ◌⊎◌, inl, inr, codes, Bool, true, ℕ, List, [], ◌∷◌, ◌++◌, Option, Some, None, refl, sym, ap, ◌∙◌, subst, append_assoc, append-nil, length, ◌+◌, arith}
-use Rattle.std.proofs.lemmas.List.{length-append}
+use Rattle.std.proofs.Common.{◌≡◌, ◌<◌, ◌⊎◌, inl, inr, codes, Bool, true, zero, suc, ℕ, ℤ, List, [], ◌∷◌, ◌++◌, Option, Some, None, Result, Ok, Err, refl, sym, ap, ◌∙◌, subst, append_assoc, append-nil, length, ◌+◌, slice_get, Contains, AllPairs, arith}
+use Rattle.std.specs.Prelude.{IfSome}
+use Rattle.std.proofs.lemmas.List.{length-append, map-append}
+use Rattle.std.proofs.lemmas.List.Elements.{Contains-append_cases}
+use Rattle.std.proofs.lemmas.Option.{slice_get_within}
 use Rattle.std.specs.Io.{appended_bytes}
-use Rattle.kmipa_record.specs.Marks.{MarkOf}
-use Rattle.kmipa_record.specs.Transcripts.{IsTranscript}
+use Rattle.kmipa_record.specs.Marks.{MarkOf, begun}
 use Rattle.kmipa_record.specs.Declarations.{DeclarationOf}
 use Rattle.kmipa_record.specs.Witnesses.{TurnOf, IsWitness}
+use Rattle.kmipa_record.proofs.MarkLemmas.{begun-append}
 use Rattle.kmipa_check.specs.Segments.{AreApart}
 use Rattle.kmipa_check.specs.Since.{IsAcceptedSince}
 use Rattle.kmipa_check.specs.declared.segment.Left.{Left}
+use Rattle.kmipa_check.proofs.JoinLemmas.{at_back, at_front, ordered}
+use Rattle.kmipa_links.specs.Links.{SegmentOf, ShareNoCall}
+use Rattle.kmipa_links.specs.Linking.{HaveLinked, LinksOn}
 use Rattle.kmipa_runs.specs.Statuses.{IsSilent}
 use Rattle.kmipa_runs.specs.declared.status.Status.{Status}
 use Rattle.kmipa_runs.specs.declared.status.Status.TheVariants as status
-use Rattle.kmipa_segments.specs.Chains.{AreChained, GoesOn, GoesOnBy, GoesOnSomehow}
-use Rattle.kmipa_segments.specs.Chaining.{AreAllApart, AreParts, AreNextOf, EndsChain, IsChain, IsNamed, IsNextOf, IsPart, PartOf, SegmentFiles, marks_of, turns_of}
+use Rattle.kmipa_segments.specs.Chains.{AreChained, GoesOn, GoesOnBy, GoesOnSomehow, IsNamed, PrintsJudged, PrintsUnjudged, TellsJudged}
+use Rattle.kmipa_segments.specs.Chaining.{AreParts, AreNextOf, EndsChain, IsChain, IsNextOf, IsPart, PartOf, SegmentFiles, marks_of, segments_of, turns_of}
 use Rattle.kmipa_segments.specs.Leaving.{TellsLeft}
+use Rattle.kmipa_segments.specs.declared.chain.Chain.{Chain}
+use Rattle.kmipa_segments.specs.declared.next.Unjudged.{Unjudged}
 
 -- the marks and turns of one part more
-marks_more : (parts : List PartOf) (p : PartOf) → marks_of (parts ++ (p ∷ [])) ≡ marks_of parts ++ p.marks
-marks_more [] p = append-nil p.marks
-marks_more (q ∷ parts) p = ap (λ (m : List MarkOf). q.marks ++ m) (marks_more parts p) ∙ sym (append_assoc q.marks (marks_of parts) p.marks)
+marks_more : (parts : List PartOf) (p : PartOf) → marks_of (parts ++ (p ∷ [])) ≡ marks_of parts ++ p.segment.marks
+marks_more [] p = append-nil p.segment.marks
+marks_more (q ∷ parts) p = ap (λ (m : List MarkOf). q.segment.marks ++ m) (marks_more parts p) ∙ sym (append_assoc q.segment.marks (marks_of parts) p.segment.marks)
 
 turns_more : (parts : List PartOf) (p : PartOf) → turns_of (parts ++ (p ∷ [])) ≡ turns_of parts ++ p.turns
 turns_more [] p = append-nil p.turns
 turns_more (q ∷ parts) p = ap (λ (m : List TurnOf). q.turns ++ m) (turns_more parts p) ∙ sym (append_assoc q.turns (turns_of parts) p.turns)
+
+segments_more : (parts : List PartOf) (p : PartOf) → segments_of (parts ++ (p ∷ [])) ≡ segments_of parts ++ (p.segment ∷ [])
+segments_more parts p = map-append (λ (part : PartOf). part.segment) parts (p ∷ [])
 
 parts_more : (files : List SegmentFiles) (parts : List PartOf) (f : SegmentFiles) (p : PartOf) → AreParts files parts → IsPart f p → AreParts (files ++ (f ∷ [])) (parts ++ (p ∷ []))
 parts_more [] [] f p are is = (is, tt)
@@ -31,69 +42,108 @@ parts_more [] (q ∷ parts) f p are is = absurd are
 parts_more (g ∷ files) [] f p are is = absurd are
 parts_more (g ∷ files) (q ∷ parts) f p are is = (are.0, parts_more files parts f p are.1 is)
 
--- where all are apart, so are those before the last, and the last is from them
-apart_front : (parts : List PartOf) (p : PartOf) → AreAllApart (parts ++ (p ∷ [])) → AreAllApart parts
-apart_front parts p apart = λ front part behind split.
-    apart front part (behind ++ (p ∷ [])) (ap (λ (l : List PartOf). l ++ (p ∷ [])) split ∙ append_assoc front (part ∷ behind) (p ∷ []))
+-- ---- no call in two
 
-apart_last : (parts : List PartOf) (p : PartOf) → AreAllApart (parts ++ (p ∷ [])) → AreApart (marks_of parts) p.marks
-apart_last parts p apart = apart parts p [] refl
+-- the segment at this place has a call of this number
+record HasAt (segments : List SegmentOf) (number : ℤ) : Type 0 where
+  place : ℕ
+  segment : SegmentOf
+  there : slice_get segments place ≡ Some segment
+  has : Contains (begun segment.marks) number
 
--- a segment that goes on from a chain
-module _ (held next : Left) (f : SegmentFiles) (p : PartOf) (is : IsPart f p) (on : GoesOn held next p.marks p.turns) where
-  module _ (first : DeclarationOf) (files : List SegmentFiles) (c : IsChain first files held) where
+-- a call that has begun among the marks of all has begun in one of them
+begun_in_one : (parts : List PartOf) (number : ℤ) → Contains (begun (marks_of parts)) number → HasAt (segments_of parts) number
+begun_in_one [] number h = absurd (omega (arith, h.1))
+begun_in_one (q ∷ parts) number h =
+    let Q : List ℤ → Type 0 = λ numbers. Contains numbers number in
+    elim (Contains-append_cases (begun q.segment.marks) (begun (marks_of parts)) number (subst Q (begun-append q.segment.marks (marks_of parts)) h)) [
+      | inl here ↦ record { place = zero; segment = q.segment; there = refl; has = here }
+      | inr behind ↦ let r = begun_in_one parts number behind in record { place = suc r.place; segment = r.segment; there = r.there; has = r.has }
+    ]
+
+-- where none stands in two, none of the last stands among those of all before it
+apart_last : (parts : List PartOf) (s : SegmentOf) → AllPairs ShareNoCall (segments_of parts ++ (s ∷ [])) → AreApart (marks_of parts) s.marks
+apart_last parts s apart = λ number there here.
+    let one = begun_in_one parts number there in
+    let before = segments_of parts in
+    ordered ShareNoCall (before ++ (s ∷ [])) apart one.place (length before + 0) one.segment s (omega (arith, slice_get_within before one.place one.segment one.there))
+    (at_front before (s ∷ []) one.place one.segment one.there) (at_back before (s ∷ []) zero s refl) number one.has here
+
+-- ---- a segment that goes on from a chain
+
+module _ (chain next : Chain) (f : SegmentFiles) (p : PartOf) (is : IsPart f p) (linked : (before : List SegmentOf) → HaveLinked before chain.links → HaveLinked (before ++ (p.segment ∷ [])) next.links)
+    (on : GoesOn chain.held next.held p.segment.marks p.turns) where
+  module _ (first : DeclarationOf) (files : List SegmentFiles) (c : IsChain first files chain) where
     abbrev parts' : List PartOf
     parts' = c.parts ++ (p ∷ [])
 
-    joined : AreAllApart parts' → AreChained first None (marks_of c.parts ++ p.marks) (turns_of c.parts ++ p.turns) next
-        × IsAcceptedSince (marks_of c.parts ++ p.marks) first None (turns_of c.parts ++ p.turns)
-    joined apart = on.joined first None (marks_of c.parts) (turns_of c.parts) (c.leads (apart_front c.parts p apart)) (apart_last c.parts p apart)
+    kept : HaveLinked (segments_of c.parts ++ (p.segment ∷ [])) next.links
+    kept = linked (segments_of c.parts) c.kept
 
-    leads : AreAllApart parts' → AreChained first None (marks_of parts') (turns_of parts') next
-    leads apart =
-        let M : List MarkOf → Type 0 = λ m. AreChained first None m (turns_of c.parts ++ p.turns) next in
-        let T : List TurnOf → Type 0 = λ t. AreChained first None (marks_of parts') t next in
-        subst T (sym (turns_more c.parts p)) (subst M (sym (marks_more c.parts p)) (joined apart).0)
+    joined : AreChained first None (marks_of c.parts ++ p.segment.marks) (turns_of c.parts ++ p.turns) next.held
+        × IsAcceptedSince (marks_of c.parts ++ p.segment.marks) first None (turns_of c.parts ++ p.turns)
+    joined = on.joined first None (marks_of c.parts) (turns_of c.parts) c.leads (apart_last c.parts p.segment kept.ends.linked.apart)
 
-    accepted : AreAllApart parts' → IsAcceptedSince (marks_of parts') first None (turns_of parts')
-    accepted apart =
+    leads : AreChained first None (marks_of parts') (turns_of parts') next.held
+    leads =
+        let M : List MarkOf → Type 0 = λ m. AreChained first None m (turns_of c.parts ++ p.turns) next.held in
+        let T : List TurnOf → Type 0 = λ t. AreChained first None (marks_of parts') t next.held in
+        subst T (sym (turns_more c.parts p)) (subst M (sym (marks_more c.parts p)) joined.0)
+
+    accepted : IsAcceptedSince (marks_of parts') first None (turns_of parts')
+    accepted =
         let M : List MarkOf → Type 0 = λ m. IsAcceptedSince m first None (turns_of c.parts ++ p.turns) in
         let T : List TurnOf → Type 0 = λ t. IsAcceptedSince (marks_of parts') first None t in
-        subst T (sym (turns_more c.parts p)) (subst M (sym (marks_more c.parts p)) (joined apart).1)
+        subst T (sym (turns_more c.parts p)) (subst M (sym (marks_more c.parts p)) joined.1)
 
-  pub next_of : IsNextOf held next f
+    kept_all : HaveLinked (segments_of parts') next.links
+    kept_all = let S : List SegmentOf → Type 0 = λ l. HaveLinked l next.links in subst S (sym (segments_more c.parts p)) kept
+
+  pub next_of : IsNextOf chain next f
   next_of first files c = record {
     parts = c.parts ++ (p ∷ []);
     are = parts_more files c.parts f p c.are is;
-    leads = leads first files c;
+    linked = (kept_all first files c).ends.linked;
     accepted = λ some. accepted first files c;
+    leads = leads first files c;
+    kept = kept_all first files c;
   }
 
--- by a witness, or by some
-pub next_by : (held next : Left) (t w : List ℕ) → GoesOnBy held next t w → IsNextOf held next (record { transcript = t; witness = Some w })
-next_by held next t w g = next_of held next (record { transcript = t; witness = Some w }) (record { marks = g.marks; turns = g.turns })
-    (record { transcript = g.transcript; witness = g.witness }) g.goes_on
+-- by turns that it is judged by, where it is linked
+module _ (chain next : Chain) (name t : List ℕ) (witness : Option (List ℕ)) (marks : List MarkOf) (turns : List TurnOf) (l : LinksOn chain.links next.links name t marks)
+    (w : IfSome witness (λ bytes. IsWitness bytes turns)) (on : GoesOn chain.held next.held marks turns) where
+  abbrev own : PartOf
+  own = record { segment = l.segment; turns = turns }
 
-pub next_somehow : (held next : Left) (t : List ℕ) → GoesOnSomehow held next t → IsNextOf held next (record { transcript = t; witness = None })
-next_somehow held next t g = next_of held next (record { transcript = t; witness = None }) (record { marks = g.marks; turns = g.turns })
-    (record { transcript = g.transcript; witness = tt }) g.goes_on
+  next_linked : IsNextOf chain next (record { name = name; transcript = t; witness = witness })
+  next_linked =
+      let G : List MarkOf → Type 0 = λ m. GoesOn chain.held next.held m turns in
+      next_of chain next (record { name = name; transcript = t; witness = witness }) own
+      (record { of = record { named = l.of.named; bytes_are = l.of.bytes_are; marks_are = refl; is = l.of.is }; witness = w }) l.on (subst G (sym l.of.marks_are) on)
+
+-- by a witness, or by some
+pub next_by : (chain next : Chain) (name t w : List ℕ) → GoesOnBy chain next name t w → IsNextOf chain next (record { name = name; transcript = t; witness = Some w })
+next_by chain next name t w g = next_linked chain next name t (Some w) g.marks g.turns g.read.links_on g.witness g.goes_on
+
+pub next_somehow : (chain next : Chain) (name t : List ℕ) → GoesOnSomehow chain next name t → IsNextOf chain next (record { name = name; transcript = t; witness = None })
+next_somehow chain next name t g = next_linked chain next name t None g.marks g.turns g.read.links_on tt g.goes_on
 
 -- where there are none yet
-pub none_yet : (first : DeclarationOf) (held : Left) → AreChained first None [] [] held → IsChain first [] held
-none_yet first held c = record { parts = []; are = tt; leads = λ apart. c; accepted = λ some. absurd (omega (arith, some)) }
+pub none_yet : (first : DeclarationOf) (chain : Chain) → AreChained first None [] [] chain.held → HaveLinked [] chain.links → IsChain first [] chain
+none_yet first chain c l = record { parts = []; are = tt; linked = l.ends.linked; accepted = λ some. absurd (omega (arith, some)); leads = c; kept = l }
 
 -- ---- many segments more
 
-pub none_more : (held : Left) → AreNextOf held held 0
-none_more held first files c =
-    let P : List SegmentFiles → Type 0 = λ l. IsChain first l held in
+pub none_more : (chain : Chain) → AreNextOf chain chain 0
+none_more chain first files c =
+    let P : List SegmentFiles → Type 0 = λ l. IsChain first l chain in
     ([], refl, subst P (sym (append-nil files)) c)
 
-pub one_more : (held next : Left) (f : SegmentFiles) → IsNextOf held next f → AreNextOf held next 1
-one_more held next f is first files c = (f ∷ [], refl, is first files c)
+pub one_more : (chain next : Chain) (f : SegmentFiles) → IsNextOf chain next f → AreNextOf chain next 1
+one_more chain next f is first files c = (f ∷ [], refl, is first files c)
 
-pub more_next : (held middle next : Left) (count : ℕ) → AreNextOf held middle count → AreNextOf middle next 1 → AreNextOf held next (count + 1)
-more_next held middle next count front one first files c =
+pub more_next : (chain middle next : Chain) (count : ℕ) → AreNextOf chain middle count → AreNextOf middle next 1 → AreNextOf chain next (count + 1)
+more_next chain middle next count front one first files c =
     let many = front first files c in
     let last = one first (files ++ many.0) many.2 in
     let P : List SegmentFiles → Type 0 = λ l. IsChain first l next in (
@@ -127,6 +177,29 @@ prints_shown P name told none all judged said lines empty same h n =
     let shown : told ≡ appended_bytes none all = same ∙ ap (λ (l : List ℕ). appended_bytes l all) (sym empty) in
     let N : List ℕ → Type 0 = λ t. Named name t judged said lines in
     prints_named P name (appended_bytes none all) judged said lines h (subst N shown n)
+
+-- what is printed of a segment: its own lines, or why it isn't judged
+module _ {A : Type 0} (Tells : A → Status → List ℕ → Type 0) (name : List ℕ) (outcome : Result A Unjudged) (answer : Result Status Unjudged) (said : Status) (lines : List ℕ) where
+  pub judged_printed : (judged : Status) (told none all : List ℕ) → answer ≡ Ok judged → none ≡ [] → told ≡ all → TellsJudged Tells outcome answer (appended_bytes none all)
+      → Named name told judged said lines → PrintsJudged Tells name outcome said lines ⊎ IsSilent said lines
+  judged_printed judged told none all is empty same h n =
+      let T : Result Status Unjudged → Type 0 = λ a. TellsJudged Tells outcome a (appended_bytes none all) in
+      by outcome (subst T is h)
+    where
+      by : (o : Result A Unjudged) → TellsJudged Tells o (Ok judged) (appended_bytes none all) → PrintsJudged Tells name o said lines ⊎ IsSilent said lines
+      by (Ok a) h = prints_shown (Tells a) name told none all judged said lines empty same h n
+      by (Err u) h = absurd h
+
+  pub unjudged_printed : (why : Unjudged) (front : List ℕ) → answer ≡ Err why → TellsJudged Tells outcome answer front → PrintsUnjudged name why said lines ⊎ IsSilent said lines
+      → PrintsJudged Tells name outcome said lines ⊎ IsSilent said lines
+  unjudged_printed why front is h p =
+      let T : Result Status Unjudged → Type 0 = λ a. TellsJudged Tells outcome a front in
+      by outcome (subst T is h) p
+    where
+      by : (o : Result A Unjudged) → TellsJudged Tells o (Err why) front → PrintsUnjudged name why said lines ⊎ IsSilent said lines → PrintsJudged Tells name o said lines ⊎ IsSilent said lines
+      by (Ok a) h p = absurd h
+      by (Err u) h (inl p) = let P : Unjudged → Type 0 = λ x. PrintsUnjudged name x said lines in inl (subst P h p)
+      by (Err u) h (inr p) = inr p
 
 -- the line of a whole chain, where what is left is asked for
 pub ends_made : (leaves : Bool) (text front : List ℕ) (left : Left) (said : Status) (lines made : List ℕ) (S : Type 0) → leaves ≡ true → text ≡ front

@@ -1,5 +1,7 @@
 -- What is found, made and printed of a segment that is searched.
 use Rattle.std.proofs.Common.{◌≡◌, ◌≢◌, ◌⊎◌, inl, inr, ◌≤◌, ◌≤ℤ◌, ℕ, ℤ, List, [], ◌++◌, Bool, true, false, IsTrue, Contains, map, length, take, Option, Some, None, Result, Ok, Err, OnOk, refl, sym, ap, ◌∙◌, subst}
+use Rattle.std.specs.Prelude.{String}
+use Rattle.std.specs.declared.alloc.Global.{Global}
 use Rattle.std.specs.Result.{is_err}
 use Rattle.std.specs.Int.Signed.{clash_ℤ}
 use Rattle.std.specs.Io.{StartsWith, appended_bytes}
@@ -15,6 +17,7 @@ use Rattle.kmipa_record.specs.declared.transcript.Transcript.{Transcript}
 use Rattle.kmipa_record.specs.declared.witness.Witness.{Witness}
 use Rattle.kmipa_msgs.specs.Messages.{ResponseOf}
 use Rattle.kmipa_check.specs.Calls.{CallOf, AreCalls}
+use Rattle.kmipa_check.specs.Grants.{GrantsNothing, GrantsOf, grants_declared}
 use Rattle.kmipa_check.specs.Left.{LeavesAtYes}
 use Rattle.kmipa_check.specs.Runs.{IsAccepted, IsOfCalls, TakeEachOnce}
 use Rattle.kmipa_check.specs.Segments.{Leads}
@@ -30,14 +33,14 @@ use Rattle.kmipa_check.proofs.AcceptedLemmas.{accepted_is_yes_lem}
 use Rattle.kmipa_check.proofs.CheckLemmas.{calls_once}
 use Rattle.kmipa_check.proofs.OnceLemmas.{IsOnce, once_pairs}
 use Rattle.kmipa_check.proofs.PlaceLemmas.{at_contains}
-use Rattle.kmipa_check.proofs.PlainLemmas.{plain_call_has_one_step_lem}
+use Rattle.kmipa_check.proofs.PlainLemmas.{its_moment, plain_call_has_one_step_lem}
 use Rattle.kmipa_check.proofs.RecordedLemmas.{same_calls}
 use Rattle.kmipa_check.proofs.SegmentLemmas.{accepted_since_lem}
 use Rattle.kmipa_check.proofs.WholeOrderLemmas.{number_of, same_call}
 use Rattle.kmipa_search.specs.Found.{Finds, HasDecided, stopped, enough, one_by_one}
 use Rattle.kmipa_search.specs.Plain.{ArePlain, IsPlainStep}
 use Rattle.kmipa_search.specs.declared.found.Found.{Found}
-use Rattle.kmipa_search.specs.declared.found.Found.TheVariants.{Yes, GaveUp}
+use Rattle.kmipa_search.specs.declared.found.Found.TheVariants.{Yes, GaveUp, Refuted}
 use Rattle.kmipa_search.proofs.PlainLemmas.{one_plain_step, plain_from}
 use Rattle.kmipa_runs.specs.Searches.{found_status, found_text, forced_text, AreUnsearched, Makes, PrintsSearch, SearchStops}
 use Rattle.kmipa_runs.specs.Statuses.{IsSilent}
@@ -62,22 +65,22 @@ record IsPlainOf (calls : List CallOf) (s : StepOf) : Type 0 where
   known : Contains calls call
   plain : IsPlainStep call s
 
-plain_of : (calls : List CallOf) (steps : List StepOf) → ArePlain calls steps → (s : StepOf) → IsOfCalls calls s → IsPlainOf calls s
-plain_of calls steps plain s of =
+plain_of : (g : GrantsOf) → GrantsNothing g → (calls : List CallOf) (steps : List StepOf) → ArePlain calls steps → (s : StepOf) → IsOfCalls g calls s → IsPlainOf calls s
+plain_of g nothing calls steps plain s of =
     let c = of.0 in
     let at = at_contains calls c of.2 in
     let p = plain_from calls steps at.0 c plain at.1 in
     let step = p.2 in
-    record { call = c; known = of.2; plain = record { response = step.response; plain = step.plain; is = plain_call_has_one_step_lem c step.response of.1 s step.plain of.3 } }
+    record { call = c; known = of.2; plain = record { response = step.response; plain = step.plain; is = plain_call_has_one_step_lem g c step.response of.1 s nothing step.plain of.3 } }
 
--- the Time Stamp of a step of a call that has ended is that of its response
-recorded_stamp : (c : CallOf) (t : TurnOf) (s : StepOf) (response : ResponseOf) → IsStep c t s → c.response ≡ Some response → s.response.stamp ≡ response.stamp
-recorded_stamp c t s response step has = by step.answered
+-- where nothing is granted, the moment of a step of a call that has ended is the Time Stamp of its response
+recorded_stamp : (g : GrantsOf) → GrantsNothing g → (c : CallOf) (t : TurnOf) (s : StepOf) (response : ResponseOf) → IsStep g c t s → c.response ≡ Some response → s.response.stamp ≡ response.stamp
+recorded_stamp g nothing c t s response step has = by step.answered
   where
     by : IsAnswered c t step.response → s.response.stamp ≡ response.stamp
     by (recorded is bare) =
         let same : step.response ≡ response = cc in
-        ap (λ (x : StepOf). x.response.stamp) step.is ∙ step.filled.stamp ∙ ap (λ (x : ResponseOf). x.stamp) same
+        ap (λ (x : StepOf). x.response.stamp) step.is ∙ its_moment g step.response.stamp t.moment step.moment nothing step.timed ∙ ap (λ (x : ResponseOf). x.stamp) same
     by (given bytes none said says) = let clash : None ≡ Some response = sym none ∙ has in absurd cc
 
 -- two calls of one number are one
@@ -87,11 +90,11 @@ one_call calls once a b p q e =
     let j = at_contains calls b q in
     same_call calls once i.0 j.0 a b i.1 j.1 e
 
-step_number : (c : CallOf) (t : TurnOf) (s : StepOf) → IsStep c t s → s.number ≡ c.number
-step_number c t s step = ap (λ (x : StepOf). x.number) step.is
+step_number : (g : GrantsOf) (c : CallOf) (t : TurnOf) (s : StepOf) → IsStep g c t s → s.number ≡ c.number
+step_number g c t s step = ap (λ (x : StepOf). x.number) step.is
 
 -- Of plain calls each run takes the same steps: where those of one aren't below the moment, those of the other aren't.
-module _ (calls : List CallOf) (once : IsOnce (map number_of calls)) (steps : List StepOf) (plain : ArePlain calls steps) where
+module _ (g : GrantsOf) (nothing : GrantsNothing g) (calls : List CallOf) (once : IsOnce (map number_of calls)) (steps : List StepOf) (plain : ArePlain calls steps) where
   same_step : (s other : StepOf) → IsPlainOf calls s → IsPlainOf calls other → s.number ≡ other.number → s ≡ other
   same_step s other p q e =
       let numbers : p.call.number ≡ q.call.number = sym (ap (λ (x : StepOf). x.number) p.plain.is) ∙ e ∙ ap (λ (x : StepOf). x.number) q.plain.is in
@@ -99,50 +102,51 @@ module _ (calls : List CallOf) (once : IsOnce (map number_of calls)) (steps : Li
       let P : CallOf → Type 0 = λ c. IsPlainStep c s in
       one_plain_step q.call s other (subst P same p.plain) q.plain
 
-  also_since : (since : Option ℤ) (declared : DeclarationOf) (run other : List StepOf) → TakeEachOnce calls run → TakeEachOnce calls other → AreSince since run → AreSince since other
+  also_since : (since : Option ℤ) (declared : DeclarationOf) (run other : List StepOf) → TakeEachOnce g calls run → TakeEachOnce g calls other → AreSince since run → AreSince since other
   also_since None declared run other a b h = tt
   also_since (Some moment) declared run other a b h = λ s in_other.
-      let p = plain_of calls steps plain s (b.of_calls s in_other) in
+      let p = plain_of g nothing calls steps plain s (b.of_calls s in_other) in
       let t = a.all p.call p.plain.plain.end p.known p.plain.plain.ended in
-      let q = plain_of calls steps plain t.0 (a.of_calls t.0 t.1) in
+      let q = plain_of g nothing calls steps plain t.0 (a.of_calls t.0 t.1) in
       let same = same_step t.0 s q p (t.2 ∙ sym (ap (λ (x : StepOf). x.number) p.plain.is)) in
       let P : StepOf → Type 0 = λ x. moment ≤ℤ x.response.stamp in
       subst P same (h t.0 t.1)
 
 -- where a call has ended below the moment, no run is since then
-below_since : (calls : List CallOf) → IsOnce (map number_of calls) → (since : Option ℤ) (run : List StepOf) → HasEndedBelow calls since → TakeEachOnce calls run → AreSince since run → ⊥
-below_since calls once since run e takes h =
+below_since : (g : GrantsOf) → GrantsNothing g → (calls : List CallOf) → IsOnce (map number_of calls) → (since : Option ℤ) (run : List StepOf) → HasEndedBelow calls since → TakeEachOnce g calls run → AreSince since run → ⊥
+below_since g nothing calls once since run e takes h =
     let t = takes.all e.call e.end e.known e.ended in
     let of = takes.of_calls t.0 t.1 in
-    let same = one_call calls once of.0 e.call of.2 e.known (sym (step_number of.0 of.1 t.0 of.3) ∙ t.2) in
-    let P : CallOf → Type 0 = λ c. IsStep c of.1 t.0 in
-    let stamp = recorded_stamp e.call of.1 t.0 e.response (subst P same of.3) e.given in
+    let same = one_call calls once of.0 e.call of.2 e.known (sym (step_number g of.0 of.1 t.0 of.3) ∙ t.2) in
+    let P : CallOf → Type 0 = λ c. IsStep g c of.1 t.0 in
+    let stamp = recorded_stamp g nothing e.call of.1 t.0 e.response (subst P same of.3) e.given in
     let Q : Option ℤ → Type 0 = λ o. AreSince o run in
     let B : ℤ → Type 0 = λ z. e.moment ≤ℤ z in
     clash_ℤ e.below (subst B stamp (subst Q e.is h t.0 t.1))
 
-never_below : (marks : List MarkOf) (declared : DeclarationOf) (since : Option ℤ) (calls : List CallOf) → AreRecorded marks → AreCalls marks calls → HasEndedBelow calls since
+never_below : (marks : List MarkOf) (declared : DeclarationOf) → GrantsNothing (grants_declared declared) → (since : Option ℤ) (calls : List CallOf) → AreRecorded marks → AreCalls marks calls → HasEndedBelow calls since
     → IsExplainedSince marks declared since → ⊥
-never_below marks declared since calls r are below e =
-    let P : List CallOf → Type 0 = λ cs. TakeEachOnce cs e.explained.steps in
+never_below marks declared nothing since calls r are below e =
+    let P : List CallOf → Type 0 = λ cs. TakeEachOnce (grants_declared declared) cs e.explained.steps in
     let takes = subst P (same_calls marks e.explained.calls calls r e.explained.are are) e.explained.run.once in
-    below_since calls (once_pairs (map number_of calls) (calls_once marks calls r are)) since e.explained.steps below takes e.since_then
+    below_since (grants_declared declared) nothing calls (once_pairs (map number_of calls) (calls_once marks calls r are)) since e.explained.steps below takes e.since_then
 
 module _ (marks : List MarkOf) (declared : DeclarationOf) (since : Option ℤ) (turns : List TurnOf) (r : AreRecorded marks) (a : IsAccepted marks declared turns) where
   -- a witness of plain calls is accepted since the moment where some order is
-  since_then : (steps : List StepOf) → ArePlain a.calls steps → IsExplainedSince marks declared since → AreSince since a.steps
-  since_then steps plain e =
+  since_then : GrantsNothing (grants_declared declared) → (steps : List StepOf) → ArePlain a.calls steps → IsExplainedSince marks declared since → AreSince since a.steps
+  since_then nothing steps plain e =
       let same = same_calls marks e.explained.calls a.calls r e.explained.are a.are in
-      let P : List CallOf → Type 0 = λ calls. TakeEachOnce calls e.explained.steps in
-      also_since a.calls (once_pairs (map number_of a.calls) (calls_once marks a.calls r a.are)) steps plain since declared e.explained.steps a.steps (subst P same e.explained.run.once) a.run.once e.since_then
+      let P : List CallOf → Type 0 = λ calls. TakeEachOnce (grants_declared declared) calls e.explained.steps in
+      also_since (grants_declared declared) nothing a.calls (once_pairs (map number_of a.calls) (calls_once marks a.calls r a.are)) steps plain since declared e.explained.steps a.steps (subst P same e.explained.run.once) a.run.once e.since_then
 
   -- so a no since the moment tells that none is
-  pub none_since : (v : Verdict) (refused : _) → v ≡ verdict.No refused → ChecksSince marks declared since turns (Ok v) → (budget count : ℕ) → HasDecidedSince a.calls since budget count
+  pub none_since : (v : Verdict) (refused : _) → v ≡ verdict.No refused → ChecksSince marks declared since turns (Ok v) → GrantsNothing (grants_declared declared) → (budget count : ℕ)
+      → HasDecidedSince a.calls since budget count
       → IsExplainedSince marks declared since → ⊥
-  none_since v refused is checks budget count (ended_below below) e = never_below marks declared since a.calls r a.are below e
-  none_since v refused is checks budget count (by_search decided) e =
+  none_since v refused is checks nothing budget count (ended_below below) e = never_below marks declared nothing since a.calls r a.are below e
+  none_since v refused is checks nothing budget count (by_search decided) e =
       let plain = decided_plain a.calls budget count decided in
-      let accepted : IsAcceptedSince marks declared since turns = record { accepted = a; since_then = since_then plain.0 plain.1 e } in
+      let accepted : IsAcceptedSince marks declared since turns = record { accepted = a; since_then = since_then nothing plain.0 plain.1 e } in
       elim (accepted_since_lem marks declared since turns r accepted (Ok v) checks) [
         | inl said ↦ absurd cc
         | inr memory ↦ absurd cc
@@ -179,7 +183,7 @@ module _ (marks : List MarkOf) (declared : DeclarationOf) (since : Option ℤ) (
       by : (x : Verdict) → v ≡ x → FindsSince marks declared since budget (GaveUp count) None
       by verdict.Yes is = absurd (yes_hands_out v handed (λ l. LeadsFrom l) is none leads)
       by (verdict.No refused) is =
-          (found.2, (found.0.calls, found.0.are, λ decided e. none_since marks declared since (witness_of witness) r found.0 v refused is checks budget count decided e))
+          (found.2, (found.0.calls, found.0.are, λ nothing decided e. none_since marks declared since (witness_of witness) r found.0 v refused is checks nothing budget count decided e))
 
 -- the same of what was found
 pub found_so : (marks : List MarkOf) (declared : DeclarationOf) (budget : ℕ) (found so : Found) → found ≡ so → Finds marks declared budget found → Finds marks declared budget so
@@ -188,11 +192,16 @@ found_so marks declared budget found so is finds = let P : Found → Type 0 = λ
 -- a search that gives up says so of every moment
 pub gives_up : (marks : List MarkOf) (declared : DeclarationOf) (since : Option ℤ) (count budget : ℕ) → AreRecorded marks → Finds marks declared budget (GaveUp count)
     → FindsSince marks declared since budget (GaveUp count) None
-gives_up marks declared since count budget r found = (found.0, (found.1.0, found.1.1, λ decided e. by decided e))
+gives_up marks declared since count budget r found = (found.0, (found.1.0, found.1.1, λ nothing decided e. by nothing decided e))
   where
-    by : HasDecidedSince found.1.0 since budget count → IsExplainedSince marks declared since → ⊥
-    by (by_search decided) e = found.1.2 decided e.explained
-    by (ended_below below) e = never_below marks declared since found.1.0 r found.1.1 below e
+    by : GrantsNothing (grants_declared declared) → HasDecidedSince found.1.0 since budget count → IsExplainedSince marks declared since → ⊥
+    by nothing (by_search decided) e = found.1.2 nothing decided e.explained
+    by nothing (ended_below below) e = never_below marks declared nothing since found.1.0 r found.1.1 below e
+
+-- and so does one that finds an object which refutes them
+pub refutes : (marks : List MarkOf) (declared : DeclarationOf) (since : Option ℤ) (count budget : ℕ) (object : String Global) → Finds marks declared budget (Refuted count object)
+    → FindsSince marks declared since budget (Refuted count object) None
+refutes marks declared since count budget object found = (found.0, λ e. found.2 e.explained)
 
 -- ---- what is made
 
@@ -297,6 +306,9 @@ module _ (segment : FoundSegment) (t d : List ℕ) (since : Option ℤ) (budget 
   leads_at leaves (GaveUp count) (Some left) found is tells = absurd (never (GaveUp count) (Some left) found is (λ h. h))
   leads_at true (GaveUp count) None found is tells = let clash : status.GaveUp ≡ status.Done = sym (ap found_status found) ∙ sym tells.0.0 ∙ done in absurd cc
   leads_at false (GaveUp count) None found is tells = let clash : status.GaveUp ≡ status.Done = sym (ap found_status found) ∙ sym tells.0.0 ∙ done in absurd cc
+  leads_at leaves (Refuted count object) (Some left) found is tells = absurd (never (Refuted count object) (Some left) found is (λ h. h))
+  leads_at true (Refuted count object) None found is tells = let clash : status.GaveUp ≡ status.Done = sym (ap found_status found) ∙ sym tells.0.0 ∙ done in absurd cc
+  leads_at false (Refuted count object) None found is tells = let clash : status.GaveUp ≡ status.Done = sym (ap found_status found) ∙ sym tells.0.0 ∙ done in absurd cc
 
   -- status 0 is reported where a witness was found, and what it leads to is made where it is asked for
   pub done_found : (leaves : Bool) → TellsFound segment (if_asked leaves segment.left) said lines made left_made ⊎ IsAllSilent said lines made left_made

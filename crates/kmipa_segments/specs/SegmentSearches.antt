@@ -5,6 +5,7 @@ use Rattle.kmipa_record.specs.Transcripts.{IsTranscript}
 use Rattle.kmipa_record.specs.Declarations.{DeclarationOf, declaration_of, IsDeclaration}
 use Rattle.kmipa_record.specs.Witnesses.{witness_of}
 use Rattle.kmipa_msgs.specs.Messages.{ResponseOf}
+use Rattle.kmipa_check.specs.Grants.{GrantsNothing, grants_declared}
 use Rattle.kmipa_check.specs.Calls.{CallOf, AreCalls}
 use Rattle.kmipa_check.specs.Runs.{IsExplained}
 use Rattle.kmipa_check.specs.Segments.{Leads}
@@ -14,7 +15,7 @@ use Rattle.kmipa_check.specs.declared.fault.CheckFault.{CheckFault}
 use Rattle.kmipa_check.specs.declared.segment.Left.{Left}
 use Rattle.kmipa_search.specs.Found.{Finds, HasDecided}
 use Rattle.kmipa_search.specs.declared.found.Found.{Found}
-use Rattle.kmipa_search.specs.declared.found.Found.TheVariants.{Yes, GaveUp}
+use Rattle.kmipa_search.specs.declared.found.Found.TheVariants.{Yes, GaveUp, Refuted}
 use Rattle.kmipa_runs.specs.Lines.{PrintsFault}
 use Rattle.kmipa_runs.specs.Searches.{found_text, forced_text, IsForcedTold, Makes, PrintsSearch, SearchFails, SearchStops}
 use Rattle.kmipa_runs.specs.declared.searched.Searched.{Searched}
@@ -49,15 +50,18 @@ pub data HasDecidedSince (calls : List CallOf) (since : Option ℤ) (budget coun
   ended_below : HasEndedBelow calls since → HasDecidedSince calls since budget count
 
 -- A yes is that of a search, with a witness that is accepted from the moment on, and leads to what is left. Giving up comes only where all
--- messages are inside, also where the search found a witness that takes a call below the moment; where it has decided, it tells that nothing
--- explains these calls from the moment on.
+-- messages are inside, also where the search found a witness that takes a call below the moment; where it has decided, and moments are stamps, it
+-- tells that nothing explains these calls from the moment on; and so it tells where one object refutes them.
 abbrev pub FindsSince : List MarkOf → DeclarationOf → Option ℤ → ℕ → Found → Option Left → Type 0
 FindsSince marks declared since budget (Yes witness count) (Some left) = Finds marks declared budget (Yes witness count)
     × IsAcceptedSince marks declared since (witness_of witness) × Leads declared since marks (witness_of witness) (declaration_of left.declaration) left.until
 FindsSince marks declared since budget (Yes witness count) None = ⊥
 FindsSince marks declared since budget (GaveUp count) (Some left) = ⊥
 FindsSince marks declared since budget (GaveUp count) None = (count ≤ budget)
-    × ((calls : List CallOf) × AreCalls marks calls × (HasDecidedSince calls since budget count → IsExplainedSince marks declared since → ⊥))
+    × ((calls : List CallOf) × AreCalls marks calls
+    × (GrantsNothing (grants_declared declared) → HasDecidedSince calls since budget count → IsExplainedSince marks declared since → ⊥))
+FindsSince marks declared since budget (Refuted count object) (Some left) = ⊥
+FindsSince marks declared since budget (Refuted count object) None = (count ≤ budget) × (IsExplainedSince marks declared since → ⊥)
 
 -- what a search of the records of a segment answers
 abbrev pub SearchesSegment : List MarkOf → DeclarationOf → Option ℤ → ℕ → Bool → Result FoundSegment CheckFault → Type 0

@@ -10,11 +10,13 @@ ghost use Rattle.kmipa_record.specs.Witnesses.{witness_of};
 ghost use Rattle.kmipa_check.specs.Left.{LeavesAtYes};
 ghost use Rattle.kmipa_runs.specs.Lines.{PrintsFault, PrintsVerdict};
 ghost use Rattle.kmipa_runs.specs.Statuses.{IsSilent};
-ghost use Rattle.kmipa_segments.specs.Chains.{AreChained, ChecksNext, GoesOnBy, GoesOnSomehow, IsSomeDeclared, LeavesWhereFound, PrintsNext, PrintsNextFound, SearchesNext};
+ghost use Rattle.kmipa_links.specs.Linking.{HaveLinked};
+ghost use Rattle.kmipa_segments.specs.Chains.{AreChained, ChecksNext, GoesOnBy, GoesOnSomehow, IsSomeDeclared, LeavesWhereFound, SearchesNext, TellsChecked, TellsJudged, TellsSearched};
 
-use crate::next::{NextSegment, check_next_inputs, search_next_input};
+use crate::next::{NextSegment, Unjudged, check_next_inputs, search_next_input};
 use crate::segment_search::FoundSegment;
 use kmipa_check::{AuditFault, Left};
+use kmipa_links::Links;
 use kmipa_record::{RecordFault, read_declaration};
 use kmipa_runs::{Status, append, fault_lines, report, searched_lines};
 use kmipa_search::{Found, Watch};
@@ -28,6 +30,8 @@ pub struct Chain {
     pub held: Left,
     /// How many calls were taken by now.
     pub calls: u64,
+    /// The segments, each linked behind those before it.
+    pub links: Links,
 }
 
 impl Chain {
@@ -42,7 +46,7 @@ impl Chain {
         ensures begins { IfOk result
             (λ chain. IsDeclaration (came_of declaration.new) (declaration_of chain.held.declaration)
             × IsTrue (is_ended declaration.new)
-            × AreChained (declaration_of chain.held.declaration) None [] [] chain.held) }
+            × AreChained (declaration_of chain.held.declaration) None [] [] chain.held × HaveLinked [] chain.links) }
         ensures declared { IfOk result (λ chain. AreDeclared (declaration_of chain.held.declaration)) }
         ensures refuses { IfErr result (λ status. (fault : RecordFault)
             × ((d : List ℕ) → IsFileOf d declaration.new
@@ -58,41 +62,43 @@ impl Chain {
                     until: None,
                 },
                 calls: 0,
+                links: Links::new(alloc),
             }),
             Err(fault) => Err(append(fault_lines(alloc, &AuditFault::Declaration(fault)), out)),
         }
     }
 
-    /// Judges the next segment by its witness, from what the segments so far leave, and from their last stamp on. Appends the lines of the verdict,
-    /// or the line of the fault that stands in their place, and answers the status. At a yes the chain then holds what this segment leaves.
+    /// Judges the next segment by its witness, from what the segments so far leave, and from their last stamp on; it is linked behind them while
+    /// it is read. Appends the lines of the verdict and answers the status, or why it wasn't judged. At a yes the chain then holds what this
+    /// segment leaves. Behind any other answer it can't go on.
     pub fn check_next<R: Read>(
         &mut self,
         alloc: Global,
+        name: &str,
         transcript: &mut Input<R>,
         witness: &mut Input<R>,
         out: &mut Vec<u8>,
-    ) -> Status
+    ) -> Result<Status, Unjudged>
         requires declared { AreDeclared (declaration_of self.old.held.declaration) }
         requires transcript { came_of transcript.old ≡ [] }
         requires witness { came_of witness.old ≡ [] }
         // What is printed tells what a check answers of whatever the inputs may be, or memory ran out.
-        ensures prints { (outcome : Result NextSegment AuditFault)
+        ensures prints { (outcome : Result NextSegment Unjudged)
             × ((t w : List ℕ) → IsFileOf t transcript.new → IsFileOf w witness.new
-            → ChecksNext self.old.held t w (is_failed transcript.new) (is_failed witness.new) outcome)
-            × (PrintsNext outcome result (appended_bytes out.old.items out.new.items)
-            ⊎ IsSilent result (appended_bytes out.old.items out.new.items)) }
-        // Status 0 is answered only of a segment that goes on from what was held, and joins all before it;
-        // what it leads to is held then.
-        ensures goes_on { result ≡ Status.Done
-            → GoesOnBy self.old.held self.new.held (came_of transcript.new) (came_of witness.new)
+            → ChecksNext self.old self.new.links name.now t w (is_failed transcript.new) (is_failed witness.new) outcome)
+            × TellsJudged TellsChecked outcome result (appended_bytes out.old.items out.new.items) }
+        // Status 0 is answered only of a segment that is linked behind those before it, goes on from what was held,
+        // and joins them; what it leads to is held then.
+        ensures goes_on { result ≡ Ok Status.Done
+            → GoesOnBy self.old self.new name.now (came_of transcript.new) (came_of witness.new)
             × IsTrue (is_ended transcript.new) × IsTrue (is_ended witness.new) }
-        ensures kept { result ≢ Status.Done → self.new.held ≡ self.old.held }
+        ensures kept { result ≢ Ok Status.Done → self.new.held ≡ self.old.held }
         ensures declared { AreDeclared (declaration_of self.new.held.declaration) }
         ensures appends { StartsWith out.new.items out.old.items }
     {
-        match check_next_inputs(alloc, &self.held, transcript, witness) {
-            Ok(segment) => self.take_checked(alloc, segment, out),
-            Err(fault) => append(fault_lines(alloc, &fault), out),
+        match check_next_inputs(alloc, self, name, transcript, witness) {
+            Ok(segment) => Ok(self.take_checked(alloc, segment, out)),
+            Err(unjudged) => Err(unjudged),
         }
     }
 
@@ -100,28 +106,28 @@ impl Chain {
     pub fn search_next<R: Read, W: Watch>(
         &mut self,
         alloc: Global,
+        name: &str,
         transcript: &mut Input<R>,
         budget: u64,
         watch: &mut W,
         out: &mut Vec<u8>,
-    ) -> Status
+    ) -> Result<Status, Unjudged>
         requires declared { AreDeclared (declaration_of self.old.held.declaration) }
         requires transcript { came_of transcript.old ≡ [] }
         // What is printed tells what a search answers of whatever the input may be, or memory ran out.
-        ensures prints { (outcome : Result FoundSegment AuditFault)
+        ensures prints { (outcome : Result FoundSegment Unjudged)
             × ((t : List ℕ) → IsFileOf t transcript.new
-            → SearchesNext self.old.held t (is_failed transcript.new) budget outcome)
-            × (PrintsNextFound outcome result (appended_bytes out.old.items out.new.items)
-            ⊎ IsSilent result (appended_bytes out.old.items out.new.items)) }
-        ensures goes_on { result ≡ Status.Done
-            → GoesOnSomehow self.old.held self.new.held (came_of transcript.new) × IsTrue (is_ended transcript.new) }
-        ensures kept { result ≢ Status.Done → self.new.held ≡ self.old.held }
+            → SearchesNext self.old self.new.links name.now t (is_failed transcript.new) budget outcome)
+            × TellsJudged TellsSearched outcome result (appended_bytes out.old.items out.new.items) }
+        ensures goes_on { result ≡ Ok Status.Done
+            → GoesOnSomehow self.old self.new name.now (came_of transcript.new) × IsTrue (is_ended transcript.new) }
+        ensures kept { result ≢ Ok Status.Done → self.new.held ≡ self.old.held }
         ensures declared { AreDeclared (declaration_of self.new.held.declaration) }
         ensures appends { StartsWith out.new.items out.old.items }
     {
-        match search_next_input(alloc, &self.held, transcript, budget, watch) {
-            Ok(segment) => self.take_found(alloc, segment, out),
-            Err(fault) => append(fault_lines(alloc, &fault), out),
+        match search_next_input(alloc, self, name, transcript, budget, watch) {
+            Ok(segment) => Ok(self.take_found(alloc, segment, out)),
+            Err(unjudged) => Err(unjudged),
         }
     }
 
@@ -135,6 +141,7 @@ impl Chain {
             ⊎ IsSilent result (appended_bytes out.old.items out.new.items) }
         ensures taken { result ≡ Status.Done → segment.checked.left ≡ Some self.new.held }
         ensures kept { result ≢ Status.Done → self.new.held ≡ self.old.held }
+        ensures links { self.new.links ≡ self.old.links }
         ensures declared { AreDeclared (declaration_of self.new.held.declaration) }
         ensures appends { StartsWith out.new.items out.old.items }
     {
@@ -154,10 +161,11 @@ impl Chain {
         requires declared { AreDeclared (declaration_of self.old.held.declaration) }
         requires leaves { LeavesWhereFound segment.searched.found segment.left
             (λ left. AreDeclared (declaration_of left.declaration)) }
-        ensures prints { PrintsNextFound (Ok segment) result (appended_bytes out.old.items out.new.items)
+        ensures prints { TellsSearched segment result (appended_bytes out.old.items out.new.items)
             ⊎ IsSilent result (appended_bytes out.old.items out.new.items) }
         ensures taken { result ≡ Status.Done → segment.left ≡ Some self.new.held }
         ensures kept { result ≢ Status.Done → self.new.held ≡ self.old.held }
+        ensures links { self.new.links ≡ self.old.links }
         ensures declared { AreDeclared (declaration_of self.new.held.declaration) }
         ensures appends { StartsWith out.new.items out.old.items }
     {
@@ -173,6 +181,7 @@ impl Chain {
         requires { IsSomeDeclared left }
         ensures done { result ≡ Status.Done }
         ensures holds { left ≡ Some self.new.held }
+        ensures links { self.new.links ≡ self.old.links }
         ensures declared { AreDeclared (declaration_of self.new.held.declaration) }
     {
         match left {
@@ -188,6 +197,6 @@ impl Chain {
 fn calls_found(found: &Found) -> usize {
     match found {
         Found::Yes(witness, _) => witness.turns.len(),
-        Found::GaveUp(_) => 0,
+        Found::GaveUp(_) | Found::Refuted(_, _) => 0,
     }
 }

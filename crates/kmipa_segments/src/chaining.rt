@@ -9,8 +9,8 @@ ghost use Rattle.kmipa_record.specs.declared.fault.RecordFault.{RecordFault};
 ghost use Rattle.kmipa_check.specs.declared.auditing.AuditFault.{AuditFault};
 ghost use Rattle.kmipa_runs.specs.Lines.{PrintsFault};
 ghost use Rattle.kmipa_runs.specs.Statuses.{IsSilent};
-ghost use Rattle.kmipa_segments.specs.Chaining.{EndsChain, IsChain, IsNamed, IsNextOf, chain_text};
-ghost use Rattle.kmipa_segments.specs.Chains.{ChecksNext, PrintsNext, PrintsNextFound, SearchesNext};
+ghost use Rattle.kmipa_segments.specs.Chaining.{EndsChain, IsChain, IsNextOf, chain_text};
+ghost use Rattle.kmipa_segments.specs.Chains.{ChecksNext, IsNamed, PrintsJudged, PrintsUnjudged, SearchesNext, TellsChecked, TellsSearched};
 ghost use Rattle.kmipa_segments.specs.Comparing.{ComparesFile, Fits, PrintsCompared};
 ghost use Rattle.kmipa_segments.specs.Leaving.{PrintsLeft};
 ghost use Rattle.kmipa_segments.specs.declared.comparing.Compared.{Compared};
@@ -19,9 +19,11 @@ ghost use Rattle.kmipa_segments.specs.declared.segment_search.FoundSegment.{Foun
 
 use crate::chain::Chain;
 use crate::comparing::{compare_input, compared_lines};
+use crate::gaps::gap_lines;
 use crate::leaving::{left_lines, tell_left};
-use kmipa_check::Left;
-use kmipa_runs::Status;
+use crate::next::Unjudged;
+use kmipa_check::{AuditFault, Left};
+use kmipa_runs::{Status, append, fault_lines};
 use kmipa_search::Watch;
 use kmipa_ttlv::Input;
 use std::alloc::{AllocError, Global};
@@ -38,7 +40,7 @@ pub fn chain_begin<R: Read>(
     ensures begins { IfOk result (λ chain.
         IsDeclaration (came_of declaration.new) (declaration_of chain.held.declaration)
         × IsTrue (is_ended declaration.new)
-        × IsChain (declaration_of chain.held.declaration) [] chain.held) }
+        × IsChain (declaration_of chain.held.declaration) [] chain) }
     ensures declared { IfOk result (λ chain. AreDeclared (declaration_of chain.held.declaration)) }
     ensures refuses { IfErr result (λ status. (fault : RecordFault)
         × ((d : List ℕ) → IsFileOf d declaration.new
@@ -51,7 +53,8 @@ pub fn chain_begin<R: Read>(
 }
 
 /// Judges the next segment of a chain by its witness: appends its name and the lines of the verdict, or of the fault in their place, and answers
-/// the status. At a yes the chain holds what the segment leaves. Where memory runs out nothing is appended, and the status is `Failed`.
+/// the status. A segment that isn't linked behind those before it isn't judged, and the line of its gap is appended. At a yes the chain holds what
+/// the segment leaves. Where memory runs out nothing is appended, and the status is `Failed`.
 pub fn chain_check<R: Read>(
     alloc: Global,
     chain: &mut Chain,
@@ -63,22 +66,24 @@ pub fn chain_check<R: Read>(
     requires declared { AreDeclared (declaration_of chain.old.held.declaration) }
     requires transcript { came_of transcript.old ≡ [] }
     requires witness { came_of witness.old ≡ [] }
-    ensures prints { (outcome : Result NextSegment AuditFault)
+    ensures prints { (outcome : Result NextSegment Unjudged)
         × ((t w : List ℕ) → IsFileOf t transcript.new → IsFileOf w witness.new
-        → ChecksNext chain.old.held t w (is_failed transcript.new) (is_failed witness.new) outcome)
-        × (IsNamed name.now (λ told. PrintsNext outcome result told) (appended_bytes out.old.items out.new.items)
+        → ChecksNext chain.old chain.new.links name.now t w (is_failed transcript.new) (is_failed witness.new) outcome)
+        × (PrintsJudged TellsChecked name.now outcome result (appended_bytes out.old.items out.new.items)
         ⊎ IsSilent result (appended_bytes out.old.items out.new.items)) }
     // Status 0 is answered only where the chain goes on with what came of this segment.
     ensures goes_on { result ≡ Status.Done
-        → IsNextOf chain.old.held chain.new.held
-        (record { transcript = came_of transcript.new; witness = Some (came_of witness.new) })
+        → IsNextOf chain.old chain.new
+        (record { name = name.now; transcript = came_of transcript.new; witness = Some (came_of witness.new) })
         × IsTrue (is_ended transcript.new) × IsTrue (is_ended witness.new) }
     ensures declared { AreDeclared (declaration_of chain.new.held.declaration) }
     ensures appends { StartsWith out.new.items out.old.items }
 {
     let mut told = Vec::new(alloc);
-    let status = chain.check_next(alloc, transcript, witness, &mut told);
-    append_named(alloc, name, &told, status, out)
+    match chain.check_next(alloc, name, transcript, witness, &mut told) {
+        Ok(status) => append_named(alloc, name, &told, status, out),
+        Err(unjudged) => tell_unjudged(alloc, name, &unjudged, out),
+    }
 }
 
 /// Judges the next segment of a chain by a witness that is searched for with at most `budget` steps, in the same way.
@@ -93,20 +98,49 @@ pub fn chain_search<R: Read, W: Watch>(
 ) -> Status
     requires declared { AreDeclared (declaration_of chain.old.held.declaration) }
     requires transcript { came_of transcript.old ≡ [] }
-    ensures prints { (outcome : Result FoundSegment AuditFault)
+    ensures prints { (outcome : Result FoundSegment Unjudged)
         × ((t : List ℕ) → IsFileOf t transcript.new
-        → SearchesNext chain.old.held t (is_failed transcript.new) budget outcome)
-        × (IsNamed name.now (λ told. PrintsNextFound outcome result told) (appended_bytes out.old.items out.new.items)
+        → SearchesNext chain.old chain.new.links name.now t (is_failed transcript.new) budget outcome)
+        × (PrintsJudged TellsSearched name.now outcome result (appended_bytes out.old.items out.new.items)
         ⊎ IsSilent result (appended_bytes out.old.items out.new.items)) }
     ensures goes_on { result ≡ Status.Done
-        → IsNextOf chain.old.held chain.new.held (record { transcript = came_of transcript.new; witness = None })
+        → IsNextOf chain.old chain.new
+        (record { name = name.now; transcript = came_of transcript.new; witness = None })
         × IsTrue (is_ended transcript.new) }
     ensures declared { AreDeclared (declaration_of chain.new.held.declaration) }
     ensures appends { StartsWith out.new.items out.old.items }
 {
     let mut told = Vec::new(alloc);
-    let status = chain.search_next(alloc, transcript, budget, watch, &mut told);
-    append_named(alloc, name, &told, status, out)
+    match chain.search_next(alloc, name, transcript, budget, watch, &mut told) {
+        Ok(status) => append_named(alloc, name, &told, status, out),
+        Err(unjudged) => tell_unjudged(alloc, name, &unjudged, out),
+    }
+}
+
+/// Appends why a segment wasn't judged: its name and the line of the fault, or the line of its gap. The status is never `Done`.
+fn tell_unjudged(alloc: Global, name: &str, unjudged: &Unjudged, out: &mut Vec<u8>) -> Status
+    ensures tells { PrintsUnjudged name.now unjudged.now result (appended_bytes out.old.items out.new.items)
+        ⊎ IsSilent result (appended_bytes out.old.items out.new.items) }
+    ensures undone { result ≢ Status.Done }
+    ensures appends { StartsWith out.new.items out.old.items }
+{
+    match unjudged {
+        Unjudged::Fault(fault) => tell_fault(alloc, name, fault, out),
+        Unjudged::Gap(gap) => append(gap_lines(alloc, name, gap), out),
+    }
+}
+
+fn tell_fault(alloc: Global, name: &str, fault: &AuditFault, out: &mut Vec<u8>) -> Status
+    ensures tells { IsNamed name.now (λ told. PrintsFault fault.now result told)
+        (appended_bytes out.old.items out.new.items)
+        ⊎ IsSilent result (appended_bytes out.old.items out.new.items) }
+    ensures undone { result ≢ Status.Done }
+    ensures appends { StartsWith out.new.items out.old.items }
+{
+    match fault_lines(alloc, fault) {
+        Ok(lines) => append_named(alloc, name, lines.text.as_bytes(), lines.status, out),
+        Err(_) => Status::Failed,
+    }
 }
 
 /// Holds a declaration that the server was asked for against what the segments so far leave: appends its name and the line of the first

@@ -20,6 +20,6 @@ pub use gaps::sealed_line;
 pub use leaving::{Segment, segment_run};
 pub use linking::{Link, chain_link};
 pub use moments::read_moment;
-pub use next::NextSegment;
+pub use next::{NextSegment, Unjudged};
 pub use parts::Part;
 pub use segment_search::{FoundSegment, search_segment_run};

@@ -1,13 +1,16 @@
-//! The next segment of a chain, read and judged from what the segments before it leave.
+//! The next segment of a chain, read, linked and judged from what the segments before it leave.
 
-ghost use Rattle.std.specs.Prelude.{◌≡◌, ℕ, List, [], IsTrue, OnOk};
+ghost use Rattle.std.specs.Prelude.{◌≡◌, ℕ, List, [], IsTrue, IfErr, IfOk, OnOk};
 ghost use Rattle.kmipa_ttlv.specs.Input.{came_of, is_ended, is_failed, IsFileOf};
 ghost use Rattle.kmipa_record.specs.Declarations.{AreDeclared, declaration_of};
-ghost use Rattle.kmipa_segments.specs.Chains.{ChecksNext, SearchesNext};
+ghost use Rattle.kmipa_record.specs.Transcripts.{transcript_of};
+ghost use Rattle.kmipa_segments.specs.Chains.{AreReadNext, ChecksNext, IsUnreadNext, SearchesNext};
 
+use crate::chain::Chain;
 use crate::segment_search::{FoundSegment, search_segment};
-use kmipa_check::{AuditFault, Checked, Left, check_segment};
-use kmipa_record::{Transcript, Witness, read_transcript, read_witness};
+use kmipa_check::{AuditFault, Checked, check_segment};
+use kmipa_links::{Gap, Links, Unlinked, read_segment};
+use kmipa_record::{Transcript, Witness, read_witness};
 use kmipa_search::Watch;
 use kmipa_ttlv::Input;
 use std::alloc::Global;
@@ -21,56 +24,73 @@ pub struct NextSegment {
     pub checked: Checked,
 }
 
-/// Reads a segment and its witness, of which nothing was read, one after the other, and checks it from what is held.
+/// Why the next segment wasn't judged.
+#[derive(Drop)]
+pub enum Unjudged {
+    /// One of its files can't be read, or the check of both has this fault.
+    Fault(AuditFault),
+    /// It isn't linked behind those before it.
+    Gap(Gap),
+}
+
+/// Reads a segment and its witness, of which nothing was read, one after the other; links it behind those of the chain, and checks it from what
+/// they leave.
 pub fn check_next_inputs<R: Read>(
     alloc: Global,
-    held: &Left,
+    chain: &mut Chain,
+    name: &str,
     transcript: &mut Input<R>,
     witness: &mut Input<R>,
-) -> Result<NextSegment, AuditFault>
-    requires declared { AreDeclared (declaration_of held.now.declaration) }
+) -> Result<NextSegment, Unjudged>
+    requires declared { AreDeclared (declaration_of chain.old.held.declaration) }
     requires transcript { came_of transcript.old ≡ [] }
     requires witness { came_of witness.old ≡ [] }
     ensures checks { (t w : List ℕ) → IsFileOf t transcript.new → IsFileOf w witness.new
-        → ChecksNext held.now t w (is_failed transcript.new) (is_failed witness.new) result }
+        → ChecksNext chain.old chain.new.links name.now t w (is_failed transcript.new) (is_failed witness.new)
+        result }
     ensures ended { OnOk result (IsTrue (is_ended transcript.new) × IsTrue (is_ended witness.new)) }
+    ensures held { chain.new.held ≡ chain.old.held }
 {
-    let transcript = match read_transcript(alloc, transcript) {
+    let transcript = match read_linked(alloc, &mut chain.links, name, transcript) {
         Ok(transcript) => transcript,
-        Err(fault) => return Err(AuditFault::Transcript(fault)),
+        Err(unjudged) => return Err(unjudged),
     };
     let witness = match read_witness(alloc, witness) {
         Ok(witness) => witness,
-        Err(fault) => return Err(AuditFault::Witness(fault)),
+        Err(fault) => return Err(Unjudged::Fault(AuditFault::Witness(fault))),
     };
+    let held = &chain.held;
     match check_segment(alloc, &transcript, &held.declaration, &witness, held.until) {
         Ok(checked) => Ok(NextSegment {
             transcript,
             witness,
             checked,
         }),
-        Err(fault) => Err(AuditFault::Check(fault)),
+        Err(fault) => Err(Unjudged::Fault(AuditFault::Check(fault))),
     }
 }
 
-/// Reads a segment, of which nothing was read, and searches it from what is held.
+/// Reads a segment, of which nothing was read; links it behind those of the chain, and searches it from what they leave.
 pub fn search_next_input<R: Read, W: Watch>(
     alloc: Global,
-    held: &Left,
+    chain: &mut Chain,
+    name: &str,
     transcript: &mut Input<R>,
     budget: u64,
     watch: &mut W,
-) -> Result<FoundSegment, AuditFault>
-    requires declared { AreDeclared (declaration_of held.now.declaration) }
+) -> Result<FoundSegment, Unjudged>
+    requires declared { AreDeclared (declaration_of chain.old.held.declaration) }
     requires transcript { came_of transcript.old ≡ [] }
     ensures searches { (t : List ℕ) → IsFileOf t transcript.new
-        → SearchesNext held.now t (is_failed transcript.new) budget result }
+        → SearchesNext chain.old chain.new.links name.now t (is_failed transcript.new) budget result }
     ensures ended { OnOk result (IsTrue (is_ended transcript.new)) }
+    ensures held { chain.new.held ≡ chain.old.held }
 {
-    let transcript = match read_transcript(alloc, transcript) {
+    let transcript = match read_linked(alloc, &mut chain.links, name, transcript) {
         Ok(transcript) => transcript,
-        Err(fault) => return Err(AuditFault::Transcript(fault)),
+        Err(unjudged) => return Err(unjudged),
     };
+    let held = &chain.held;
     match search_segment(
         alloc,
         &transcript,
@@ -82,6 +102,27 @@ pub fn search_next_input<R: Read, W: Watch>(
         watch,
     ) {
         Ok(segment) => Ok(segment),
-        Err(fault) => Err(AuditFault::Check(fault)),
+        Err(fault) => Err(Unjudged::Fault(AuditFault::Check(fault))),
+    }
+}
+
+/// Reads a segment, of which nothing was read, and links it behind those so far.
+fn read_linked<R: Read>(
+    alloc: Global,
+    links: &mut Links,
+    name: &str,
+    transcript: &mut Input<R>,
+) -> Result<Transcript, Unjudged>
+    requires { came_of transcript.old ≡ [] }
+    ensures reads { IfOk result
+        (λ read. AreReadNext links.old links.new name.now (came_of transcript.new) (transcript_of read)
+        × IsTrue (is_ended transcript.new)) }
+    ensures unread { (t : List ℕ) → IsFileOf t transcript.new
+        → IfErr result (IsUnreadNext links.old name.now t (is_failed transcript.new)) }
+{
+    match read_segment(alloc, links, name, transcript) {
+        Ok(transcript) => Ok(transcript),
+        Err(Unlinked::Fault(fault)) => Err(Unjudged::Fault(AuditFault::Transcript(fault))),
+        Err(Unlinked::Gap(gap)) => Err(Unjudged::Gap(gap)),
     }
 }

@@ -193,6 +193,13 @@ pub fn search_segment<W: Watch>(
             count,
         ),
         Found::GaveUp(count) => Ok(gave_up(forced, count)),
+        Found::Refuted(count, object) => Ok(FoundSegment {
+            searched: Searched {
+                forced,
+                found: Found::Refuted(count, object),
+            },
+            left: None,
+        }),
     }
 }
 
@@ -336,5 +343,6 @@ fn make_found(alloc: Global, found: &Found, made: &mut Vec<u8>) -> Result<(), Re
     match found {
         Found::Yes(witness, _) => write_witness(alloc, witness, made),
         Found::GaveUp(_) => Ok(()),
+        Found::Refuted(_, _) => Ok(()),
     }
 }

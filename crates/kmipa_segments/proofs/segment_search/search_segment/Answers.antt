@@ -1,10 +1,10 @@
 use Rattle.std.proofs.Common.{sym, subst, Ok}
 use Rattle.kmipa_record.specs.Declarations.{declaration_of}
 use Rattle.kmipa_record.specs.Transcripts.{transcript_of}
-use Rattle.kmipa_search.specs.declared.found.Found.TheVariants.{Yes, GaveUp}
+use Rattle.kmipa_search.specs.declared.found.Found.TheVariants.{Yes, GaveUp, Refuted}
 use Rattle.kmipa_segments.specs.SegmentSearches.{SearchesSegment}
 use Rattle.kmipa_segments.specs.declared.segment_search.FoundSegment.{FoundSegment}
-use Rattle.kmipa_segments.proofs.SegmentSearchLemmas.{found_so, gives_up}
+use Rattle.kmipa_segments.proofs.SegmentSearchLemmas.{found_so, gives_up, refutes}
 use Rattle.kmipa_segments.proofs.segment_search.search_segment.Goals as goal
 
 pub returns-in-Yes : goal.returns-in-Yes
@@ -25,4 +25,14 @@ returns-in-GaveUp g c = λ r.
       searched.0,
       gives_up marks declared c.args.since c.in-GaveUp.count c.args.budget r
           (found_so marks declared c.args.budget c.in-Ok.searched.found (GaveUp c.in-GaveUp.count) c.in-GaveUp.is searched.1),
+    )
+
+pub returns-in-Refuted : goal.returns-in-Refuted
+returns-in-Refuted g c = λ r.
+    let marks = transcript_of c.args.transcript.now in
+    let declared = declaration_of c.args.declaration.now in
+    let searched = c.in-Ok.ensures r in (
+      searched.0,
+      refutes marks declared c.args.since c.in-Refuted.count c.args.budget c.in-Refuted.object
+          (found_so marks declared c.args.budget c.in-Ok.searched.found (Refuted c.in-Refuted.count c.in-Refuted.object) c.in-Refuted.is searched.1),
     )
