@@ -49,22 +49,22 @@ pub record ChecksExplained {R : Type 0} (t d w : Input R) (said : Status) (lines
   pub yes : (said ≡ status.Done) ↔ (lines ≡ yes_line)
   pub accepts : AcceptsWhenDone t d w said
 
--- One object in place of the lines.
-pub record ChecksInJson {R : Type 0} (t d w : Input R) (said : Status) (lines : List ℕ) : Type 0 where
-  pub prints : ((outcome : Result Audited AuditFault) × AuditsInputs t d w outcome × PrintsJson t d w outcome said lines) ⊎ IsSilent said lines
+-- One object in place of the lines; of a torn transcript so many bytes are its own.
+pub record ChecksInJson {R : Type 0} (torn : Option ℕ) (t d w : Input R) (said : Status) (lines : List ℕ) : Type 0 where
+  pub prints : ((outcome : Result Audited AuditFault) × AuditsInputs t d w outcome × PrintsJson torn t d w outcome said lines) ⊎ IsSilent said lines
   pub accepts : AcceptsWhenDone t d w said
 
 -- One object, and with it what a no means.
-pub record ChecksExplainedInJson {R : Type 0} (t d w : Input R) (said : Status) (lines : List ℕ) : Type 0 where
-  pub prints : ((outcome : Result Explained FaultTold) × ExplainsInputs t d w outcome × PrintsExplainedJson t d w outcome said lines) ⊎ IsSilent said lines
+pub record ChecksExplainedInJson {R : Type 0} (torn : Option ℕ) (t d w : Input R) (said : Status) (lines : List ℕ) : Type 0 where
+  pub prints : ((outcome : Result Explained FaultTold) × ExplainsInputs t d w outcome × PrintsExplainedJson torn t d w outcome said lines) ⊎ IsSilent said lines
   pub accepts : AcceptsWhenDone t d w said
 
 -- what a check of whole files says in this form
-abbrev pub Checks : {R : Type 0} → Form → Input R → Input R → Input R → Status → List ℕ → Type 0
-Checks form.Lines t d w said lines = ChecksInLines t d w said lines
-Checks form.Explained t d w said lines = ChecksExplained t d w said lines
-Checks form.Json t d w said lines = ChecksInJson t d w said lines
-Checks form.ExplainedJson t d w said lines = ChecksExplainedInJson t d w said lines
+abbrev pub Checks : {R : Type 0} → Form → Option ℕ → Input R → Input R → Input R → Status → List ℕ → Type 0
+Checks form.Lines torn t d w said lines = ChecksInLines t d w said lines
+Checks form.Explained torn t d w said lines = ChecksExplained t d w said lines
+Checks form.Json torn t d w said lines = ChecksInJson torn t d w said lines
+Checks form.ExplainedJson torn t d w said lines = ChecksExplainedInJson torn t d w said lines
 
 -- What a check of a segment says from a moment on, and makes of what it leaves where that is asked for.
 pub record ChecksInSegment {R : Type 0} (leaves : Bool) (since : Option ℤ) (t d w : Input R) (said : Status) (lines made : List ℕ) : Type 0 where

@@ -45,18 +45,18 @@ pub record SearchesExplained {R : Type 0} (words : SearchWords) (t d : Input R) 
       × (PrintsGivingUp outcome said lines made ⊎ MakesNothing said lines made)
   pub accepts : FindsWhenDone t d said made
 
--- One object in place of the lines, which has that too.
-pub record SearchesInJson {R : Type 0} (words : SearchWords) (t d : Input R) (said : Status) (lines made : List ℕ) : Type 0 where
-  pub prints : ((outcome : Result Judged FaultTold) × DecidesInputs t d words.budget words.forced outcome × PrintsJsonSearch t d outcome said lines made)
+-- One object in place of the lines, which has that too; of a torn transcript so many bytes are its own.
+pub record SearchesInJson {R : Type 0} (words : SearchWords) (torn : Option ℕ) (t d : Input R) (said : Status) (lines made : List ℕ) : Type 0 where
+  pub prints : ((outcome : Result Judged FaultTold) × DecidesInputs t d words.budget words.forced outcome × PrintsJsonSearch torn t d outcome said lines made)
       ⊎ MakesNothing said lines made
   pub accepts : FindsWhenDone t d said made
 
 -- what a search of whole files says in this form, and makes
-abbrev pub Searches : {R : Type 0} → Form → SearchWords → Input R → Input R → Status → List ℕ → List ℕ → Type 0
-Searches form.Lines words t d said lines made = SearchesInLines words t d said lines made
-Searches form.Explained words t d said lines made = SearchesExplained words t d said lines made
-Searches form.Json words t d said lines made = SearchesInJson words t d said lines made
-Searches form.ExplainedJson words t d said lines made = SearchesInJson words t d said lines made
+abbrev pub Searches : {R : Type 0} → Form → SearchWords → Option ℕ → Input R → Input R → Status → List ℕ → List ℕ → Type 0
+Searches form.Lines words torn t d said lines made = SearchesInLines words t d said lines made
+Searches form.Explained words torn t d said lines made = SearchesExplained words t d said lines made
+Searches form.Json words torn t d said lines made = SearchesInJson words torn t d said lines made
+Searches form.ExplainedJson words torn t d said lines made = SearchesInJson words torn t d said lines made
 
 -- What a search of a segment says from a moment on: it makes a witness, and what it leaves where that is asked for.
 pub record SearchesInSegment {R : Type 0} (words : SearchWords) (leaves : Bool) (since : Option ℤ) (t d : Input R) (said : Status) (lines made left : List ℕ) : Type 0 where

@@ -9,9 +9,9 @@ use Rattle.kmipa_runs.specs.declared.status.Status.TheVariants as status
 use Rattle.kmipa_session.specs.Checks.{Checks, ChecksInSegment}
 use Rattle.kmipa_session.specs.Jobs.{asked_of, IsNoMoment, IsSince}
 use Rattle.kmipa_session.specs.Printing.{trouble_text, TellsLines, TellsRest, TellsTrouble, voice_of}
-use Rattle.kmipa_session.specs.Sealing.{IsExpected, IsNoSeal, SaysOf}
+use Rattle.kmipa_session.specs.Sealing.{IsExpected, IsNoSeal, IsOpenedAs, SaysOf, own_length}
 use Rattle.kmipa_session.specs.Searches.{Searches, SearchesInSegment, Shows}
-use Rattle.kmipa_session.specs.Worlds.{input_of, name_of}
+use Rattle.kmipa_session.specs.Worlds.{input_of, name_of, torn_of}
 use Rattle.kmipa_session.specs.declared.did.Did.{Did}
 use Rattle.kmipa_session.specs.declared.did.Did.TheVariants as did
 use Rattle.kmipa_session.specs.declared.did.Said.{Said}
@@ -67,41 +67,41 @@ module _ {F M E : Type 0} (made : M → List ℕ × List ℕ) (lacked : E → Bo
 
   -- ---- what was done, with this status and these lines
 
-  -- Files with these names were read for a check, and this is what it says of them, and of the transcript's seals, where this head is
+  -- Files with these names were read for a check, the transcript with a close behind it where it was torn and might be, and this is what it says of them, and of the transcript's seals, where this head is
   -- expected, if one is.
-  abbrev pub HasChecked : CheckFiles → Form → Option (List ℕ) → Did F M E → Status → List ℕ → Type 0
-  HasChecked files form expected (did.Checked ft fd fw) said lines = (name_of ft ≡ files.transcript.now) × (name_of fd ≡ files.declaration.now)
+  abbrev pub HasChecked : CheckFiles → Bool → Form → Option (List ℕ) → Did F M E → Status → List ℕ → Type 0
+  HasChecked files torn form expected (did.Checked ft fd fw) said lines = (name_of ft ≡ files.transcript.now) × IsOpenedAs torn ft × (name_of fd ≡ files.declaration.now)
       × (name_of fw ≡ files.witness.now)
-      × SaysOf (voice_of form) expected (input_of ft) (λ ran told. Checks form (input_of ft) (input_of fd) (input_of fw) ran told) said lines
-  HasChecked files form expected other said lines = ⊥
+      × SaysOf (voice_of form) expected ft (λ ran told. Checks form (own_length (torn_of ft)) (input_of ft) (input_of fd) (input_of fw) ran told) said lines
+  HasChecked files torn form expected other said lines = ⊥
 
   -- for the check of a segment, and what it leaves was made, where that is asked for
-  abbrev pub HasCheckedSegment : CheckFiles → SegmentWords → Option (List ℕ) → Did F M E → Status → List ℕ → Type 0
-  HasCheckedSegment files segment expected (did.CheckedSegment ft fd fw file) said lines = (name_of ft ≡ files.transcript.now)
+  abbrev pub HasCheckedSegment : CheckFiles → Bool → SegmentWords → Option (List ℕ) → Did F M E → Status → List ℕ → Type 0
+  HasCheckedSegment files torn segment expected (did.CheckedSegment ft fd fw file) said lines = (name_of ft ≡ files.transcript.now) × IsOpenedAs torn ft
       × (name_of fd ≡ files.declaration.now) × (name_of fw ≡ files.witness.now)
       × ((since : Option ℤ) × IsSince segment.not_before since × ((bytes : List ℕ)
-      × SaysOf voice.Lines expected (input_of ft)
+      × SaysOf voice.Lines expected ft
       (λ ran told. ChecksInSegment (is_some segment.leaves) since (input_of ft) (input_of fd) (input_of fw) ran told bytes) said lines
       × IsMadeAsAsked made segment.leaves bytes said file))
-  HasCheckedSegment files segment expected other said lines = ⊥
+  HasCheckedSegment files torn segment expected other said lines = ⊥
 
   -- for a search, and the witness that it found was made, if it found one
-  abbrev pub HasSearched : SearchFiles → Form → SearchWords → Option (List ℕ) → Did F M E → Status → List ℕ → Type 0
-  HasSearched files form words expected (did.Searched ft fd file) said lines = (name_of ft ≡ files.transcript.now) × (name_of fd ≡ files.declaration.now)
+  abbrev pub HasSearched : SearchFiles → Bool → Form → SearchWords → Option (List ℕ) → Did F M E → Status → List ℕ → Type 0
+  HasSearched files torn form words expected (did.Searched ft fd file) said lines = (name_of ft ≡ files.transcript.now) × IsOpenedAs torn ft × (name_of fd ≡ files.declaration.now)
       × ((bytes : List ℕ)
-      × SaysOf (voice_of form) expected (input_of ft) (λ ran told. Searches form words (input_of ft) (input_of fd) ran told bytes) said lines
+      × SaysOf (voice_of form) expected ft (λ ran told. Searches form words (own_length (torn_of ft)) (input_of ft) (input_of fd) ran told bytes) said lines
       × IsMade made files.out.now bytes said file)
-  HasSearched files form words expected other said lines = ⊥
+  HasSearched files torn form words expected other said lines = ⊥
 
   -- for the search of a segment, and what the witness leaves was made too, where that is asked for
-  abbrev pub HasSearchedSegment : SearchFiles → SearchWords → SegmentWords → Option (List ℕ) → Did F M E → Status → List ℕ → Type 0
-  HasSearchedSegment files words segment expected (did.SearchedSegment ft fd file left) said lines = (name_of ft ≡ files.transcript.now)
+  abbrev pub HasSearchedSegment : SearchFiles → Bool → SearchWords → SegmentWords → Option (List ℕ) → Did F M E → Status → List ℕ → Type 0
+  HasSearchedSegment files torn words segment expected (did.SearchedSegment ft fd file left) said lines = (name_of ft ≡ files.transcript.now) × IsOpenedAs torn ft
       × (name_of fd ≡ files.declaration.now)
       × ((since : Option ℤ) × IsSince segment.not_before since × ((bytes more : List ℕ)
-      × SaysOf voice.Lines expected (input_of ft)
+      × SaysOf voice.Lines expected ft
       (λ ran told. SearchesInSegment words (is_some segment.leaves) since (input_of ft) (input_of fd) ran told bytes more) said lines
       × IsMade made files.out.now bytes said file × IsMadeAsAsked made segment.leaves more said left))
-  HasSearchedSegment files words segment expected other said lines = ⊥
+  HasSearchedSegment files torn words segment expected other said lines = ⊥
 
   -- A file with this name was read for its digits, and the items were made that they spell, if they do.
   abbrev pub HasWritten : List ℕ → List ℕ → Did F M E → Status → List ℕ → Type 0
@@ -122,25 +122,25 @@ module _ {F M E : Type 0} (made : M → List ℕ × List ℕ) (lacked : E → Bo
   TellsDone voice (Err e) done before after failed left = (done ≡ did.Refused e) × TellsTrouble voice (lacked e) before after failed left
 
   -- a check of these files, where this head is expected, if one is
-  abbrev pub RunsAskedCheck : CheckFiles → SegmentWords → Option (List ℕ) → Asked → Did F M E → List ℕ → List ℕ → Bool → Status → Type 0
-  RunsAskedCheck files segment expected (asked.Files form) done before after failed left =
-      TellsWhat (voice_of form) (HasChecked files form expected) done before after failed left
-  RunsAskedCheck files segment expected asked.Segment done before after failed left =
-      TellsWhat voice.Lines (λ what said lines. HasCheckedSegment files segment expected what said lines ⊎ IsUntold segment what said lines) done before after failed left
+  abbrev pub RunsAskedCheck : CheckFiles → Bool → SegmentWords → Option (List ℕ) → Asked → Did F M E → List ℕ → List ℕ → Bool → Status → Type 0
+  RunsAskedCheck files torn segment expected (asked.Files form) done before after failed left =
+      TellsWhat (voice_of form) (HasChecked files torn form expected) done before after failed left
+  RunsAskedCheck files torn segment expected asked.Segment done before after failed left =
+      TellsWhat voice.Lines (λ what said lines. HasCheckedSegment files torn segment expected what said lines ⊎ IsUntold segment what said lines) done before after failed left
 
   abbrev pub RunsCheck : CheckFiles → AnswerWords → Did F M E → List ℕ → List ℕ → Bool → Status → Type 0
   RunsCheck files words done before after failed left = RunsAsAsked (asked_of words.form words.segment) words.seals.head
-      (λ expected asked. RunsAskedCheck files words.segment expected asked done before after failed left) (TellsMistake done before after left)
+      (λ expected asked. RunsAskedCheck files words.seals.torn words.segment expected asked done before after failed left) (TellsMistake done before after left)
 
-  abbrev pub RunsAskedSearch : SearchFiles → SearchWords → SegmentWords → Option (List ℕ) → Asked → Did F M E → List ℕ → List ℕ → Bool → Status → Type 0
-  RunsAskedSearch files words segment expected (asked.Files form) done before after failed left =
-      TellsWhat (voice_of form) (HasSearched files form words expected) done before after failed left
-  RunsAskedSearch files words segment expected asked.Segment done before after failed left =
-      TellsWhat voice.Lines (λ what said lines. HasSearchedSegment files words segment expected what said lines ⊎ IsUntold segment what said lines) done before after failed left
+  abbrev pub RunsAskedSearch : SearchFiles → Bool → SearchWords → SegmentWords → Option (List ℕ) → Asked → Did F M E → List ℕ → List ℕ → Bool → Status → Type 0
+  RunsAskedSearch files torn words segment expected (asked.Files form) done before after failed left =
+      TellsWhat (voice_of form) (HasSearched files torn form words expected) done before after failed left
+  RunsAskedSearch files torn words segment expected asked.Segment done before after failed left =
+      TellsWhat voice.Lines (λ what said lines. HasSearchedSegment files torn words segment expected what said lines ⊎ IsUntold segment what said lines) done before after failed left
 
   abbrev pub RunsSearch : SearchFiles → SearchWords → AnswerWords → Did F M E → List ℕ → List ℕ → Bool → Status → Type 0
   RunsSearch files search words done before after failed left = RunsAsAsked (asked_of words.form words.segment) words.seals.head
-      (λ expected asked. RunsAskedSearch files search words.segment expected asked done before after failed left) (TellsMistake done before after left)
+      (λ expected asked. RunsAskedSearch files words.seals.torn search words.segment expected asked done before after failed left) (TellsMistake done before after left)
 
   -- The items of a file with this name are shown, and printed as far as they could be; or it is refused.
   abbrev pub RunsShow : List ℕ → ShowOptions → Did F M E → List ℕ → List ℕ → Bool → Status → Type 0

@@ -74,7 +74,8 @@ fn chain_folder<W: World, O: Out>(
     }
 }
 
-/// Links all segments of a folder ahead of any verdict, judges them, and tells the seals of the whole.
+/// Links all segments of a folder ahead of any verdict, judges them, each linked once more by the bytes that are judged, and tells the seals of
+/// the whole by those.
 fn judge_linked<W: World, O: Out>(
     alloc: Global,
     world: &W,
@@ -100,7 +101,7 @@ fn judge_linked<W: World, O: Out>(
         &mut chain,
         words,
     )? {
-        Status::Done => Ok(tell_seals(alloc, out, &links)),
+        Status::Done => Ok(tell_seals(alloc, out, &chain)),
         status => Ok(status),
     }
 }
@@ -140,9 +141,9 @@ fn link<W: World, O: Out>(
     }
 }
 
-/// Prints the line of the seals of segments that were linked, if they bear any.
-fn tell_seals<O: Out>(alloc: Global, out: &mut O, links: &Links) -> Status {
-    match sealed_line(alloc, links) {
+/// Prints the line of the seals of the segments that were judged, if they bear any.
+fn tell_seals<O: Out>(alloc: Global, out: &mut O, chain: &Chain) -> Status {
+    match sealed_line(alloc, &chain.links) {
         Ok(line) => tell(out, Voice::Lines, line.as_bytes(), Status::Done),
         Err(_) => tell(out, Voice::Lines, b"", Status::Failed),
     }
@@ -190,7 +191,7 @@ pub fn judge_all<W: World, O: Out>(
     requires { AreDeclared (declaration_of chain.old.held.declaration) }
     // Status 0 is answered only where each of the segments goes on from those before it.
     ensures { IfOk result (λ status.
-        status ≡ Status.Done → AreNextOf chain.old.held chain.new.held (length segments.now)) }
+        status ≡ Status.Done → AreNextOf chain.old chain.new (length segments.now)) }
 {
     match judge_in_turn(alloc, world, out, segments, chain, words)? {
         Status::Done => end_all(
@@ -262,7 +263,7 @@ pub fn judge_in_turn<W: World, O: Out>(
 ) -> Result<Status, W::Refusal>
     requires { AreDeclared (declaration_of chain.old.held.declaration) }
     ensures { IfOk result (λ status.
-        status ≡ Status.Done → AreNextOf chain.old.held chain.new.held (length segments.now)) }
+        status ≡ Status.Done → AreNextOf chain.old chain.new (length segments.now)) }
 {
     let mut place = 0;
     'segments: while place < segments.len() {
@@ -284,7 +285,7 @@ fn judge<W: World, O: Out>(
     words: ChainWords<'_>,
 ) -> Result<Status, W::Refusal>
     requires { AreDeclared (declaration_of chain.old.held.declaration) }
-    ensures joins { IfOk result (λ status. status ≡ Status.Done → AreNextOf chain.old.held chain.new.held 1) }
+    ensures joins { IfOk result (λ status. status ≡ Status.Done → AreNextOf chain.old chain.new 1) }
     ensures declared { AreDeclared (declaration_of chain.new.held.declaration) }
 {
     let status = compare_all(alloc, world, out, &segment.asked, chain)?;
@@ -338,7 +339,7 @@ fn check<W: World, O: Out>(
     chain: &mut Chain,
 ) -> Result<Status, W::Refusal>
     requires { AreDeclared (declaration_of chain.old.held.declaration) }
-    ensures joins { IfOk result (λ status. status ≡ Status.Done → AreNextOf chain.old.held chain.new.held 1) }
+    ensures joins { IfOk result (λ status. status ≡ Status.Done → AreNextOf chain.old chain.new 1) }
     ensures declared { AreDeclared (declaration_of chain.new.held.declaration) }
 {
     let mut transcript = world.open(segment.transcript.as_str())?;
@@ -360,7 +361,7 @@ fn search<W: World, O: Out>(
     words: ChainWords<'_>,
 ) -> Result<Status, W::Refusal>
     requires { AreDeclared (declaration_of chain.old.held.declaration) }
-    ensures joins { IfOk result (λ status. status ≡ Status.Done → AreNextOf chain.old.held chain.new.held 1) }
+    ensures joins { IfOk result (λ status. status ≡ Status.Done → AreNextOf chain.old chain.new 1) }
     ensures declared { AreDeclared (declaration_of chain.new.held.declaration) }
 {
     let mut transcript = world.open(segment.transcript.as_str())?;

@@ -3,6 +3,9 @@
 ghost use Rattle.std.specs.Prelude.{◌≡◌, ◌⊎◌, [], IfOk, MatchResult};
 ghost use Rattle.kmipa_runs.specs.declared.status.Status.{Status};
 ghost use Rattle.kmipa_session.specs.Jobs.{IsNoMoment, IsSince};
+ghost use Rattle.kmipa_session.specs.Sealing.{IsOpenedAs};
+ghost use Rattle.kmipa_session.specs.Worlds.{input_of, name_of};
+ghost use Rattle.kmipa_ttlv.specs.Input.{came_of};
 ghost use Rattle.kmipa_session.specs.Sessions.{HasChecked, HasCheckedSegment, IsMadeAsAsked, IsRefused, IsUntold, RunsAskedCheck, RunsCheck, TellsWhat};
 ghost use Rattle.kmipa_session.specs.Printing.{voice_of};
 ghost use Rattle.kmipa_session.specs.declared.job.Asked.TheVariants.{Segment};
@@ -19,12 +22,13 @@ use kmipa_runs::Status;
 use kmipa_segments::read_moment;
 use std::alloc::Global;
 
-/// What a check is asked for, and the head that it has to have, if one is expected.
+/// What a check is asked for, the head that it has to have, if one is expected, and whether the transcript may be torn.
 #[derive(Clone, Copy, PartialEq, Eq)]
 struct CheckWords<'a> {
     files: CheckFiles<'a>,
     segment: SegmentWords<'a>,
     expected: Option<[u8; 32]>,
+    torn: bool,
 }
 
 /// Checks three files as the options ask for it, and prints what is said of them.
@@ -47,6 +51,7 @@ pub fn run_check<'n, W: World, O: Out>(
                 files,
                 segment: words.segment,
                 expected,
+                torn: words.seals.torn,
             };
             run_asked_check(alloc, world, out, asked, words)
         }
@@ -61,7 +66,8 @@ fn run_asked_check<'n, W: World, O: Out>(
     asked: Asked,
     words: CheckWords<'n>,
 ) -> Session<'n, O, W::File, W::Made, W::Refusal>
-    ensures { RunsAskedCheck W.made W.lacked words.entry.files words.entry.segment words.entry.expected asked
+    ensures { RunsAskedCheck W.made W.lacked words.entry.files words.entry.torn words.entry.segment
+        words.entry.expected asked
         result.did (O.printed out) (O.printed result.out) (O.has_failed result.out) result.status }
 {
     match asked {
@@ -78,8 +84,8 @@ fn run_whole_check<'n, W: World, O: Out>(
     form: Form,
     words: CheckWords<'n>,
 ) -> Session<'n, O, W::File, W::Made, W::Refusal>
-    ensures { TellsWhat W.made W.lacked (voice_of form) (HasChecked W.made W.lacked words.entry.files form
-        words.entry.expected)
+    ensures { TellsWhat W.made W.lacked (voice_of form) (HasChecked W.made W.lacked words.entry.files
+        words.entry.torn form words.entry.expected)
         result.did (O.printed out) (O.printed result.out) (O.has_failed result.out) result.status }
 {
     let done = check_files(alloc, world, form, words);
@@ -93,7 +99,8 @@ fn run_segment_check<'n, W: World, O: Out>(
     out: O,
     words: CheckWords<'n>,
 ) -> Session<'n, O, W::File, W::Made, W::Refusal>
-    ensures { RunsAskedCheck W.made W.lacked words.entry.files words.entry.segment words.entry.expected Segment
+    ensures { RunsAskedCheck W.made W.lacked words.entry.files words.entry.torn words.entry.segment
+        words.entry.expected Segment
         result.did (O.printed out) (O.printed result.out) (O.has_failed result.out) result.status }
 {
     let done = check_segment(alloc, world, words);
@@ -107,19 +114,25 @@ fn check_files<'n, W: World>(
     form: Form,
     words: CheckWords<'n>,
 ) -> Result<(Said, Did<'n, W::File, W::Made, W::Refusal>), W::Refusal>
-    ensures { IfOk result (λ done. HasChecked W.made W.lacked words.entry.files form words.entry.expected
-        done.1 done.0.status done.0.lines.items) }
+    ensures { IfOk result (λ done. HasChecked W.made W.lacked words.entry.files words.entry.torn form
+        words.entry.expected done.1 done.0.status done.0.lines.items) }
 {
     let files = words.files;
     let names = [files.transcript, files.declaration, files.witness];
-    let mut transcript = world.open(files.transcript)?;
+    let mut transcript = open_transcript(world, files.transcript, words.torn)?;
     let mut declaration = world.open(files.declaration)?;
     let mut witness = world.open(files.witness)?;
     let ran = Named::check(alloc, form, &mut transcript, &mut declaration, &mut witness);
     if ran.status == Status::Refused {
         world.hint_kind(&names, &ran.lines);
     }
-    let said = say_seals(alloc, voice_of(form), words.expected, ran);
+    let said = say_seals(
+        alloc,
+        voice_of(form),
+        words.expected,
+        transcript.torn(),
+        ran,
+    );
     Ok((said, Did::Checked(transcript, declaration, witness)))
 }
 
@@ -131,7 +144,8 @@ fn check_segment<'n, W: World>(
     words: CheckWords<'n>,
 ) -> Result<(Said, Did<'n, W::File, W::Made, W::Refusal>), W::Refusal>
     ensures { IfOk result (λ done.
-        (HasCheckedSegment W.made W.lacked words.entry.files words.entry.segment words.entry.expected
+        (HasCheckedSegment W.made W.lacked words.entry.files words.entry.torn words.entry.segment
+        words.entry.expected
         done.1 done.0.status done.0.lines.items
         ⊎ IsUntold words.entry.segment done.1 done.0.status done.0.lines.items)
         ⊎ IsRefused W.made W.lacked Lines done.1 done.0.status done.0.lines.items) }
@@ -146,7 +160,7 @@ fn check_segment<'n, W: World>(
     if let Err(refusal) = test_left(world, leaves, &inputs) {
         return Ok((mistaken(alloc), Did::Refused(refusal)));
     }
-    let mut transcript = world.open(files.transcript)?;
+    let mut transcript = open_transcript(world, files.transcript, words.torn)?;
     let mut declaration = world.open(files.declaration)?;
     let mut order = world.open(files.witness)?;
     test_leaves(world, leaves)?;
@@ -161,12 +175,29 @@ fn check_segment<'n, W: World>(
     if ran.status == Status::Refused {
         world.hint_kind(&inputs, &ran.lines);
     }
-    let said = say_seals(alloc, Voice::Lines, words.expected, ran);
+    let said = say_seals(alloc, Voice::Lines, words.expected, transcript.torn(), ran);
     let file = make_left(world, leaves, &left, said.status)?;
     Ok((
         said,
         Did::CheckedSegment(transcript, declaration, order, file),
     ))
+}
+
+/// Opens a transcript, which may be torn where that is asked for.
+pub fn open_transcript<'n, W: World>(
+    world: &W,
+    name: &'n str,
+    torn: bool,
+) -> Result<Named<'n, W::File>, W::Refusal>
+    ensures name { IfOk result (λ file. name_of file ≡ name.now) }
+    ensures fresh { IfOk result (λ file. came_of (input_of file) ≡ []) }
+    ensures opened { IfOk result (IsOpenedAs torn) }
+{
+    if torn {
+        world.open_torn(name)
+    } else {
+        world.open(name)
+    }
 }
 
 /// Tests that what is left is made of none of the files that are read, where it is asked for.

@@ -50,6 +50,8 @@ pub struct SearchWords {
 pub struct SealWords<'a> {
     /// The head that the transcript has to have, as it is written in the words.
     pub head: Option<&'a str>,
+    /// Judges a torn transcript up to its last whole record.
+    pub torn: bool,
 }
 
 /// What the options of a check or a search ask for of its answer.

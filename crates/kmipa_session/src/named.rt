@@ -2,12 +2,14 @@
 
 use crate::did::Said;
 use crate::job::{Form, SearchWords};
-use crate::ran::Ran;
+use crate::ran::{Ran, told_of};
 use crate::runs::{
     check_explained, check_explained_object, check_left, check_lines, check_object,
     search_explained, search_left, search_lines, search_object, write_items,
 };
+use crate::sealing::own_length;
 use kmipa_links::Links;
+use kmipa_record::Torn;
 use kmipa_runs::{Printer, ShowOptions, Status, Unprinted, show_run};
 use kmipa_search::Watch;
 use kmipa_segments::{
@@ -22,6 +24,8 @@ use std::io::Read;
 pub struct Named<'n, R> {
     name: &'n str,
     input: Input<R>,
+    // Where it is torn, if a close is given behind what it has.
+    torn: Option<Torn>,
 }
 
 impl<'n, R: Read> Named<'n, R> {
@@ -29,7 +33,6 @@ impl<'n, R: Read> Named<'n, R> {
     ghost use Rattle.std.specs.Io.{StartsWith, appended_bytes};
     ghost use Rattle.kmipa_ttlv.specs.Input.{came_of, is_ended, is_failed, IsFileOf};
     ghost use Rattle.kmipa_runs.specs.Inputs.{Writes};
-    ghost use Rattle.kmipa_runs.specs.Knowing.{KnowsSeals};
     ghost use Rattle.kmipa_record.specs.Declarations.{AreDeclared, DeclarationFault, DeclarationOf, IsDeclaration, IsDeclarationUpTo, declaration_of};
     ghost use Rattle.kmipa_record.specs.Files.{Tells};
     ghost use Rattle.kmipa_record.specs.declared.fault.RecordFault.{RecordFault};
@@ -37,26 +40,47 @@ impl<'n, R: Read> Named<'n, R> {
     ghost use Rattle.kmipa_runs.specs.Lines.{PrintsFault};
     ghost use Rattle.kmipa_runs.specs.Statuses.{IsSilent};
     ghost use Rattle.kmipa_runs.specs.declared.status.Status.{Status};
-    ghost use Rattle.kmipa_segments.specs.Chaining.{IsChain, IsNamed, IsNextOf};
-    ghost use Rattle.kmipa_segments.specs.Chains.{ChecksNext, PrintsNext, PrintsNextFound, SearchesNext};
+    ghost use Rattle.kmipa_segments.specs.Chaining.{IsChain, IsNextOf};
+    ghost use Rattle.kmipa_segments.specs.Chains.{ChecksNext, IsNamed, PrintsJudged, SearchesNext, TellsChecked, TellsSearched};
     ghost use Rattle.kmipa_segments.specs.Comparing.{ComparesFile, Fits, PrintsCompared};
     ghost use Rattle.kmipa_segments.specs.Linking.{LinksSo};
     ghost use Rattle.kmipa_segments.specs.declared.comparing.Compared.{Compared};
     ghost use Rattle.kmipa_segments.specs.declared.next.NextSegment.{NextSegment};
+    ghost use Rattle.kmipa_segments.specs.declared.next.Unjudged.{Unjudged};
     ghost use Rattle.kmipa_segments.specs.declared.segment_search.FoundSegment.{FoundSegment};
     ghost use Rattle.kmipa_session.specs.Checks.{Checks, ChecksInSegment};
+    ghost use Rattle.kmipa_session.specs.Sealing.{KnowsTold, own_length};
     ghost use Rattle.kmipa_session.specs.Searches.{Searches, SearchesInSegment, Shows};
-    ghost use Rattle.kmipa_session.specs.Worlds.{input_of, name_of};
+    ghost use Rattle.kmipa_session.specs.Worlds.{input_of, name_of, torn_of};
 
     /// The file with this name, over this reader, of which nothing was read.
     pub fn over(name: &'n str, reader: R) -> Named<'n, R>
         ensures name { name_of result ≡ name.now }
         ensures fresh { came_of (input_of result) ≡ [] }
+        ensures whole { torn_of result ≡ None }
+    {
+        Named::over_torn(name, reader, None)
+    }
+
+    /// The transcript with this name, over this reader, of which nothing was read. Where it is torn the reader gives a close behind its whole
+    /// records.
+    pub fn over_torn(name: &'n str, reader: R, torn: Option<Torn>) -> Named<'n, R>
+        ensures name { name_of result ≡ name.now }
+        ensures fresh { came_of (input_of result) ≡ [] }
+        ensures torn { torn_of result ≡ torn }
     {
         Named {
             name,
             input: Input::new(reader),
+            torn,
         }
+    }
+
+    /// Where it is torn, if a close is given behind what it has.
+    pub fn torn(&self) -> Option<Torn>
+        ensures { result ≡ torn_of self.now }
+    {
+        self.torn
     }
 
     /// Checks three files, and tells it in this form.
@@ -70,22 +94,27 @@ impl<'n, R: Read> Named<'n, R> {
         requires transcript { came_of (input_of transcript.old) ≡ [] }
         requires declaration { came_of (input_of declaration.old) ≡ [] }
         requires witness { came_of (input_of witness.old) ≡ [] }
-        ensures checks { Checks form (input_of transcript.new) (input_of declaration.new) (input_of witness.new)
-            result.status result.lines.items }
-        ensures known { KnowsSeals (came_of (input_of transcript.new)) result.status result.head }
+        ensures checks { Checks form (own_length (torn_of transcript.new)) (input_of transcript.new)
+            (input_of declaration.new) (input_of witness.new) result.status result.lines.items }
+        ensures known { KnowsTold (torn_of transcript.new) (came_of (input_of transcript.new)) result.status
+            result.head }
+        ensures torn { torn_of transcript.new ≡ torn_of transcript.old }
         ensures transcript { name_of transcript.new ≡ name_of transcript.old }
         ensures declaration { name_of declaration.new ≡ name_of declaration.old }
         ensures witness { name_of witness.new ≡ name_of witness.old }
     {
+        let torn = transcript.torn;
+        let own = own_length(torn);
         let t = &mut transcript.input;
         let d = &mut declaration.input;
         let w = &mut witness.input;
-        match form {
+        let ran = match form {
             Form::Lines => check_lines(alloc, t, d, w),
             Form::Explained => check_explained(alloc, t, d, w),
-            Form::Json => check_object(alloc, t, d, w),
-            Form::ExplainedJson => check_explained_object(alloc, t, d, w),
-        }
+            Form::Json => check_object(alloc, own, t, d, w),
+            Form::ExplainedJson => check_explained_object(alloc, own, t, d, w),
+        };
+        told_of(torn, ran)
     }
 
     /// Checks three files of a segment, from a moment on where one is given, and where it is asked for answers behind what is said the bytes of
@@ -104,19 +133,23 @@ impl<'n, R: Read> Named<'n, R> {
         ensures checks { ChecksInSegment leaves since (input_of transcript.new) (input_of declaration.new) (input_of
             witness.new)
             result.0.status result.0.lines.items result.1.items }
-        ensures known { KnowsSeals (came_of (input_of transcript.new)) result.0.status result.0.head }
+        ensures known { KnowsTold (torn_of transcript.new) (came_of (input_of transcript.new)) result.0.status
+            result.0.head }
+        ensures torn { torn_of transcript.new ≡ torn_of transcript.old }
         ensures transcript { name_of transcript.new ≡ name_of transcript.old }
         ensures declaration { name_of declaration.new ≡ name_of declaration.old }
         ensures witness { name_of witness.new ≡ name_of witness.old }
     {
-        check_left(
+        let torn = transcript.torn;
+        let (ran, left) = check_left(
             alloc,
             &mut transcript.input,
             &mut declaration.input,
             &mut witness.input,
             since,
             leaves,
-        )
+        );
+        (told_of(torn, ran), left)
     }
 
     /// Looks for a witness of two files, tells it in this form, and answers behind what is said the bytes of the witness.
@@ -130,19 +163,24 @@ impl<'n, R: Read> Named<'n, R> {
     ) -> (Ran, Vec<u8>)
         requires transcript { came_of (input_of transcript.old) ≡ [] }
         requires declaration { came_of (input_of declaration.old) ≡ [] }
-        ensures searches { Searches form words (input_of transcript.new) (input_of declaration.new)
-            result.0.status result.0.lines.items result.1.items }
-        ensures known { KnowsSeals (came_of (input_of transcript.new)) result.0.status result.0.head }
+        ensures searches { Searches form words (own_length (torn_of transcript.new)) (input_of transcript.new)
+            (input_of declaration.new) result.0.status result.0.lines.items result.1.items }
+        ensures known { KnowsTold (torn_of transcript.new) (came_of (input_of transcript.new)) result.0.status
+            result.0.head }
+        ensures torn { torn_of transcript.new ≡ torn_of transcript.old }
         ensures transcript { name_of transcript.new ≡ name_of transcript.old }
         ensures declaration { name_of declaration.new ≡ name_of declaration.old }
     {
+        let torn = transcript.torn;
+        let own = own_length(torn);
         let t = &mut transcript.input;
         let d = &mut declaration.input;
-        match form {
+        let (ran, made) = match form {
             Form::Lines => search_lines(alloc, words, t, d, watch),
             Form::Explained => search_explained(alloc, words, t, d, watch),
-            Form::Json | Form::ExplainedJson => search_object(alloc, words, t, d, watch),
-        }
+            Form::Json | Form::ExplainedJson => search_object(alloc, words, own, t, d, watch),
+        };
+        (told_of(torn, ran), made)
     }
 
     /// Looks for a witness of two files of a segment, from a moment on where one is given, and answers behind what is said the bytes of the
@@ -160,11 +198,14 @@ impl<'n, R: Read> Named<'n, R> {
         requires declaration { came_of (input_of declaration.old) ≡ [] }
         ensures searches { SearchesInSegment words leaves since (input_of transcript.new) (input_of declaration.new)
             result.0.status result.0.lines.items result.1.items result.2.items }
-        ensures known { KnowsSeals (came_of (input_of transcript.new)) result.0.status result.0.head }
+        ensures known { KnowsTold (torn_of transcript.new) (came_of (input_of transcript.new)) result.0.status
+            result.0.head }
+        ensures torn { torn_of transcript.new ≡ torn_of transcript.old }
         ensures transcript { name_of transcript.new ≡ name_of transcript.old }
         ensures declaration { name_of declaration.new ≡ name_of declaration.old }
     {
-        search_left(
+        let torn = transcript.torn;
+        let (ran, made, left) = search_left(
             alloc,
             words,
             &mut transcript.input,
@@ -172,7 +213,8 @@ impl<'n, R: Read> Named<'n, R> {
             since,
             leaves,
             watch,
-        )
+        );
+        (told_of(torn, ran), made, left)
     }
 
     /// Prints the items of the file.
@@ -209,7 +251,7 @@ impl<'n, R: Read> Named<'n, R> {
         ensures begins { IfOk result (λ chain.
             IsDeclaration (came_of (input_of self.new)) (declaration_of chain.held.declaration)
             × IsTrue (is_ended (input_of self.new))
-            × IsChain (declaration_of chain.held.declaration) [] chain.held) }
+            × IsChain (declaration_of chain.held.declaration) [] chain) }
         ensures declared { IfOk result (λ chain. AreDeclared (declaration_of chain.held.declaration)) }
         ensures refuses { IfErr result (λ status. (fault : RecordFault)
             × ((d : List ℕ) → IsFileOf d (input_of self.new)
@@ -237,7 +279,7 @@ impl<'n, R: Read> Named<'n, R> {
         chain_link(alloc, links, name, &mut self.input, lines)
     }
 
-    /// Judges the next segment of a chain by its witness, and appends its name and its lines.
+    /// Judges the next segment of a chain by its witness, and appends its name and its lines, or the line of its gap, if it has one.
     pub fn check_next(
         alloc: Global,
         chain: &mut Chain,
@@ -249,15 +291,15 @@ impl<'n, R: Read> Named<'n, R> {
         requires declared { AreDeclared (declaration_of chain.old.held.declaration) }
         requires transcript { came_of (input_of transcript.old) ≡ [] }
         requires witness { came_of (input_of witness.old) ≡ [] }
-        ensures prints { (outcome : Result NextSegment AuditFault)
+        ensures prints { (outcome : Result NextSegment Unjudged)
             × ((t w : List ℕ) → IsFileOf t (input_of transcript.new) → IsFileOf w (input_of witness.new)
-            → ChecksNext chain.old.held t w (is_failed (input_of transcript.new))
+            → ChecksNext chain.old chain.new.links name.now t w (is_failed (input_of transcript.new))
             (is_failed (input_of witness.new)) outcome)
-            × (IsNamed name.now (λ told. PrintsNext outcome result told)
-            (appended_bytes lines.old.items lines.new.items)
+            × (PrintsJudged TellsChecked name.now outcome result (appended_bytes lines.old.items lines.new.items)
             ⊎ IsSilent result (appended_bytes lines.old.items lines.new.items)) }
-        ensures goes_on { result ≡ Status.Done → IsNextOf chain.old.held chain.new.held
+        ensures goes_on { result ≡ Status.Done → IsNextOf chain.old chain.new
             (record {
+              name = name.now;
               transcript = came_of (input_of transcript.new);
               witness = Some (came_of (input_of witness.new));
             }) × IsTrue (is_ended (input_of transcript.new)) × IsTrue (is_ended (input_of witness.new)) }
@@ -274,7 +316,8 @@ impl<'n, R: Read> Named<'n, R> {
         )
     }
 
-    /// Judges the next segment of a chain, of which this is the transcript, by a witness that is searched for, and appends its name and its lines.
+    /// Judges the next segment of a chain, of which this is the transcript, by a witness that is searched for, and appends its name and its lines,
+    /// or the line of its gap, if it has one.
     pub fn search_next<W: Watch>(
         &mut self,
         alloc: Global,
@@ -286,14 +329,13 @@ impl<'n, R: Read> Named<'n, R> {
     ) -> Status
         requires declared { AreDeclared (declaration_of chain.old.held.declaration) }
         requires fresh { came_of (input_of self.old) ≡ [] }
-        ensures prints { (outcome : Result FoundSegment AuditFault)
+        ensures prints { (outcome : Result FoundSegment Unjudged)
             × ((t : List ℕ) → IsFileOf t (input_of self.new)
-            → SearchesNext chain.old.held t (is_failed (input_of self.new)) budget outcome)
-            × (IsNamed name.now (λ told. PrintsNextFound outcome result told)
-            (appended_bytes lines.old.items lines.new.items)
+            → SearchesNext chain.old chain.new.links name.now t (is_failed (input_of self.new)) budget outcome)
+            × (PrintsJudged TellsSearched name.now outcome result (appended_bytes lines.old.items lines.new.items)
             ⊎ IsSilent result (appended_bytes lines.old.items lines.new.items)) }
-        ensures goes_on { result ≡ Status.Done → IsNextOf chain.old.held chain.new.held
-            (record { transcript = came_of (input_of self.new); witness = None })
+        ensures goes_on { result ≡ Status.Done → IsNextOf chain.old chain.new
+            (record { name = name.now; transcript = came_of (input_of self.new); witness = None })
             × IsTrue (is_ended (input_of self.new)) }
         ensures declared { AreDeclared (declaration_of chain.new.held.declaration) }
         ensures appends { StartsWith lines.new.items lines.old.items }

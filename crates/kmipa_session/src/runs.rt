@@ -62,9 +62,10 @@ pub fn check_explained<R: Read>(
     }
 }
 
-/// Checks three inputs, and tells it in one object.
+/// Checks three inputs, and tells it in one object; of a torn transcript so many bytes are its own.
 pub fn check_object<R: Read>(
     alloc: Global,
+    torn: Option<u64>,
     transcript: &mut Input<R>,
     declaration: &mut Input<R>,
     witness: &mut Input<R>,
@@ -72,11 +73,11 @@ pub fn check_object<R: Read>(
     requires transcript { came_of transcript.old ≡ [] }
     requires declaration { came_of declaration.old ≡ [] }
     requires witness { came_of witness.old ≡ [] }
-    ensures told { ChecksInJson transcript.new declaration.new witness.new result.status result.lines.items }
+    ensures told { ChecksInJson torn transcript.new declaration.new witness.new result.status result.lines.items }
     ensures known { KnowsSeals (came_of transcript.new) result.status result.head }
 {
     let mut lines = Vec::new(alloc);
-    let answered = check_json(alloc, transcript, declaration, witness, &mut lines);
+    let answered = check_json(alloc, torn, transcript, declaration, witness, &mut lines);
     Ran {
         status: answered.status,
         lines,
@@ -87,6 +88,7 @@ pub fn check_object<R: Read>(
 /// And with it what a no means.
 pub fn check_explained_object<R: Read>(
     alloc: Global,
+    torn: Option<u64>,
     transcript: &mut Input<R>,
     declaration: &mut Input<R>,
     witness: &mut Input<R>,
@@ -94,11 +96,11 @@ pub fn check_explained_object<R: Read>(
     requires transcript { came_of transcript.old ≡ [] }
     requires declaration { came_of declaration.old ≡ [] }
     requires witness { came_of witness.old ≡ [] }
-    ensures told { ChecksExplainedInJson transcript.new declaration.new witness.new result.status result.lines.items }
+    ensures told { ChecksExplainedInJson torn transcript.new declaration.new witness.new result.status result.lines.items }
     ensures known { KnowsSeals (came_of transcript.new) result.status result.head }
 {
     let mut lines = Vec::new(alloc);
-    let answered = explain_json(alloc, transcript, declaration, witness, &mut lines);
+    let answered = explain_json(alloc, torn, transcript, declaration, witness, &mut lines);
     Ran {
         status: answered.status,
         lines,
@@ -216,19 +218,21 @@ pub fn search_explained<R: Read, W: Watch>(
 pub fn search_object<R: Read, W: Watch>(
     alloc: Global,
     words: SearchWords,
+    torn: Option<u64>,
     transcript: &mut Input<R>,
     declaration: &mut Input<R>,
     watch: &mut W,
 ) -> (Ran, Vec<u8>)
     requires transcript { came_of transcript.old ≡ [] }
     requires declaration { came_of declaration.old ≡ [] }
-    ensures told { SearchesInJson words transcript.new declaration.new result.0.status result.0.lines.items result.1.items }
+    ensures told { SearchesInJson words torn transcript.new declaration.new result.0.status result.0.lines.items result.1.items }
     ensures known { KnowsSeals (came_of transcript.new) result.0.status result.0.head }
 {
     let mut lines = Vec::new(alloc);
     let mut made = Vec::new(alloc);
     let answered = search_json(
         alloc,
+        torn,
         transcript,
         declaration,
         words.budget,

@@ -2,14 +2,16 @@
 
 ghost use Rattle.std.specs.Prelude.{◌≡◌, ◌⊎◌, ◌++◌, IfOk, MatchResult, OnOk, true, Some, string_bytes};
 ghost use Rattle.kmipa_runs.specs.Statuses.{IsSilent};
-ghost use Rattle.kmipa_session.specs.Sealing.{IsExpected, IsNoSeal, SaysSeals, is_verdict, other_head_text, sealed_line};
+ghost use Rattle.kmipa_session.specs.Sealing.{IsExpected, IsNoSeal, SaysSeals, is_verdict, other_head_text, own_length, sealed_line, told_line};
 ghost use Rattle.kmipa_runs.specs.declared.status.Status.{Status};
 
 use crate::did::Said;
 use crate::ran::Ran;
 use crate::voice::Voice;
-use kmipa_record::Head;
-use kmipa_runs::{Status, has_seal, head_line, other_head_line, other_head_object, read_seal};
+use kmipa_record::{Head, Torn};
+use kmipa_runs::{
+    Status, has_seal, head_line, other_head_line, other_head_object, read_seal, torn_line,
+};
 use std::alloc::{AllocError, Global};
 
 /// A word that spells no seal.
@@ -28,10 +30,26 @@ pub fn expected_of(word: Option<&str>) -> Result<Option<[u8; 32]>, NoSeal>
     }
 }
 
+/// Where a close was given behind a torn transcript, how many bytes are the transcript's own.
+pub fn own_length(torn: Option<Torn>) -> Option<u64>
+    ensures { result ≡ own_length torn }
+{
+    match torn {
+        Some(torn) => Some(torn.length),
+        None => None,
+    }
+}
+
 /// What a run said, and behind a verdict the line of the head, of a transcript that bears seals. Where another head is expected that is said in
-/// place of the verdict. Where memory runs out nothing is said.
-pub fn say_seals(alloc: Global, voice: Voice, expected: Option<[u8; 32]>, ran: Ran) -> Said
-    ensures { SaysSeals voice expected ran.head ran.status ran.lines.items result.status result.lines.items }
+/// place of the verdict. Of a torn transcript the line says that it is. Where memory runs out nothing is said.
+pub fn say_seals(
+    alloc: Global,
+    voice: Voice,
+    expected: Option<[u8; 32]>,
+    torn: Option<Torn>,
+    ran: Ran,
+) -> Said
+    ensures { SaysSeals voice expected torn ran.head ran.status ran.lines.items result.status result.lines.items }
 {
     let Ran {
         status,
@@ -40,7 +58,7 @@ pub fn say_seals(alloc: Global, voice: Voice, expected: Option<[u8; 32]>, ran: R
     } = ran;
     let said = Said { status, lines };
     if is_verdict(status) {
-        say_verdict(alloc, voice, expected, &head, said)
+        say_verdict(alloc, voice, expected, torn, &head, said)
     } else {
         said
     }
@@ -51,15 +69,16 @@ fn say_verdict(
     alloc: Global,
     voice: Voice,
     expected: Option<[u8; 32]>,
+    torn: Option<Torn>,
     head: &Option<Head>,
     said: Said,
 ) -> Said
     requires { is_verdict said.status ≡ true }
-    ensures { SaysSeals voice expected head.now said.status said.lines.items result.status result.lines.items }
+    ensures { SaysSeals voice expected torn head.now said.status said.lines.items result.status result.lines.items }
 {
     match expected {
-        Some(seal) => say_expected(alloc, voice, &seal, head, said),
-        None => say_head(alloc, voice, head, said),
+        Some(seal) => say_expected(alloc, voice, &seal, torn, head, said),
+        None => say_head(alloc, voice, torn, head, said),
     }
 }
 
@@ -68,14 +87,15 @@ fn say_expected(
     alloc: Global,
     voice: Voice,
     seal: &[u8; 32],
+    torn: Option<Torn>,
     head: &Option<Head>,
     said: Said,
 ) -> Said
     requires { is_verdict said.status ≡ true }
-    ensures { SaysSeals voice (Some seal.now) head.now said.status said.lines.items result.status result.lines.items }
+    ensures { SaysSeals voice (Some seal.now) torn head.now said.status said.lines.items result.status result.lines.items }
 {
     if has_seal(head, seal) {
-        say_head(alloc, voice, head, said)
+        say_head(alloc, voice, torn, head, said)
     } else {
         say_other_head(alloc, voice, head, seal)
     }
@@ -92,12 +112,18 @@ fn is_verdict(status: Status) -> bool
 }
 
 /// What was said, and behind it the line of the head.
-fn say_head(alloc: Global, voice: Voice, head: &Option<Head>, said: Said) -> Said
+fn say_head(
+    alloc: Global,
+    voice: Voice,
+    torn: Option<Torn>,
+    head: &Option<Head>,
+    said: Said,
+) -> Said
     ensures { IsSilent result.status result.lines.items
-        ⊎ ((result.status ≡ said.status) × (result.lines.items ≡ said.lines.items ++ sealed_line voice head.now)) }
+        ⊎ ((result.status ≡ said.status) × (result.lines.items ≡ said.lines.items ++ sealed_line voice torn head.now)) }
 {
     let Said { status, mut lines } = said;
-    match push_head(alloc, voice, head, &mut lines) {
+    match push_head(alloc, voice, torn, head, &mut lines) {
         Ok(()) => Said { status, lines },
         Err(_) => silent(alloc),
     }
@@ -107,17 +133,28 @@ fn say_head(alloc: Global, voice: Voice, head: &Option<Head>, said: Said) -> Sai
 fn push_head(
     alloc: Global,
     voice: Voice,
+    torn: Option<Torn>,
     head: &Option<Head>,
     lines: &mut Vec<u8>,
 ) -> Result<(), AllocError>
-    ensures { OnOk result (lines.new.items ≡ lines.old.items ++ sealed_line voice head.now) }
+    ensures { OnOk result (lines.new.items ≡ lines.old.items ++ sealed_line voice torn head.now) }
 {
     match (voice, head) {
         (Voice::Lines, Some(head)) => {
-            let line = head_line(alloc, head)?;
+            let line = told_line(alloc, torn, head)?;
             lines.extend_from_slice(line.as_bytes())
         }
         _ => Ok(()),
+    }
+}
+
+/// The line of a head, which says where the transcript is torn, if it is.
+fn told_line(alloc: Global, torn: Option<Torn>, head: &Head) -> Result<String, AllocError>
+    ensures { IfOk result (λ text. string_bytes text ≡ told_line torn head.now) }
+{
+    match torn {
+        Some(torn) => torn_line(alloc, head, torn),
+        None => head_line(alloc, head),
     }
 }
 

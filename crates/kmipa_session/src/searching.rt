@@ -6,7 +6,7 @@ ghost use Rattle.kmipa_session.specs.Printing.{voice_of};
 ghost use Rattle.kmipa_session.specs.declared.job.Asked.TheVariants.{Segment};
 ghost use Rattle.kmipa_session.specs.declared.voice.Voice.TheVariants.{Lines};
 
-use crate::checking::{NoMoment, mistaken, moment_of, test_leaves, test_left};
+use crate::checking::{NoMoment, mistaken, moment_of, open_transcript, test_leaves, test_left};
 use crate::did::{Did, Said, Session};
 use crate::job::{AnswerWords, Asked, Form, SearchFiles, SearchWords, SegmentWords, asked_of};
 use crate::named::Named;
@@ -17,13 +17,14 @@ use crate::world::{Content, Out, World};
 use kmipa_runs::Status;
 use std::alloc::Global;
 
-/// What a search is asked for, and the head that the transcript has to have, if one is expected.
+/// What a search is asked for, the head that the transcript has to have, if one is expected, and whether it may be torn.
 #[derive(Clone, Copy, PartialEq, Eq)]
 struct FindWords<'a> {
     files: SearchFiles<'a>,
     search: SearchWords,
     segment: SegmentWords<'a>,
     expected: Option<[u8; 32]>,
+    torn: bool,
 }
 
 /// Looks for a witness of two files as the options ask for it, makes the third file of it, and prints what is said.
@@ -50,6 +51,7 @@ pub fn run_search<'n, W: World, O: Out>(
                 search,
                 segment: words.segment,
                 expected,
+                torn: words.seals.torn,
             };
             run_asked_search(alloc, world, out, asked, words, &mut watch)
         }
@@ -65,7 +67,8 @@ fn run_asked_search<'n, W: World, O: Out>(
     words: FindWords<'n>,
     watch: &mut W::Watcher,
 ) -> Session<'n, O, W::File, W::Made, W::Refusal>
-    ensures { RunsAskedSearch W.made W.lacked words.entry.files words.entry.search words.entry.segment
+    ensures { RunsAskedSearch W.made W.lacked words.entry.files words.entry.torn words.entry.search
+        words.entry.segment
         words.entry.expected asked
         result.did (O.printed out) (O.printed result.out) (O.has_failed result.out) result.status }
 {
@@ -84,8 +87,8 @@ fn run_whole_search<'n, W: World, O: Out>(
     words: FindWords<'n>,
     watch: &mut W::Watcher,
 ) -> Session<'n, O, W::File, W::Made, W::Refusal>
-    ensures { TellsWhat W.made W.lacked (voice_of form) (HasSearched W.made W.lacked words.entry.files form
-        words.entry.search words.entry.expected)
+    ensures { TellsWhat W.made W.lacked (voice_of form) (HasSearched W.made W.lacked words.entry.files
+        words.entry.torn form words.entry.search words.entry.expected)
         result.did (O.printed out) (O.printed result.out) (O.has_failed result.out) result.status }
 {
     let done = search_files(alloc, world, form, words, watch);
@@ -100,7 +103,8 @@ fn run_segment_search<'n, W: World, O: Out>(
     words: FindWords<'n>,
     watch: &mut W::Watcher,
 ) -> Session<'n, O, W::File, W::Made, W::Refusal>
-    ensures { RunsAskedSearch W.made W.lacked words.entry.files words.entry.search words.entry.segment
+    ensures { RunsAskedSearch W.made W.lacked words.entry.files words.entry.torn words.entry.search
+        words.entry.segment
         words.entry.expected Segment
         result.did (O.printed out) (O.printed result.out) (O.has_failed result.out) result.status }
 {
@@ -117,7 +121,8 @@ fn search_files<'n, W: World>(
     watch: &mut W::Watcher,
 ) -> Result<(Said, Did<'n, W::File, W::Made, W::Refusal>), W::Refusal>
     ensures { IfOk result (λ done.
-        HasSearched W.made W.lacked words.entry.files form words.entry.search words.entry.expected done.1
+        HasSearched W.made W.lacked words.entry.files words.entry.torn form words.entry.search
+        words.entry.expected done.1
         done.0.status done.0.lines.items
         ⊎ IsRefused W.made W.lacked (voice_of form) done.1 done.0.status done.0.lines.items) }
 {
@@ -127,7 +132,7 @@ fn search_files<'n, W: World>(
     if let Err(refusal) = world.test_distinct(witness, &names) {
         return Ok((mistaken(alloc), Did::Refused(refusal)));
     }
-    let mut transcript = world.open(files.transcript)?;
+    let mut transcript = open_transcript(world, files.transcript, words.torn)?;
     let mut declaration = world.open(files.declaration)?;
     world.test_output(witness)?;
     let (ran, made) = Named::search(
@@ -141,7 +146,13 @@ fn search_files<'n, W: World>(
     if ran.status == Status::Refused {
         world.hint_kind(&names, &ran.lines);
     }
-    let said = say_seals(alloc, voice_of(form), words.expected, ran);
+    let said = say_seals(
+        alloc,
+        voice_of(form),
+        words.expected,
+        transcript.torn(),
+        ran,
+    );
     let file = make_when_done(world, witness, &made, said.status)?;
     Ok((said, Did::Searched(transcript, declaration, file)))
 }
@@ -169,7 +180,8 @@ fn search_segment<'n, W: World>(
     watch: &mut W::Watcher,
 ) -> Result<(Said, Did<'n, W::File, W::Made, W::Refusal>), W::Refusal>
     ensures { IfOk result (λ done.
-        (HasSearchedSegment W.made W.lacked words.entry.files words.entry.search words.entry.segment
+        (HasSearchedSegment W.made W.lacked words.entry.files words.entry.torn words.entry.search
+        words.entry.segment
         words.entry.expected
         done.1 done.0.status done.0.lines.items
         ⊎ IsUntold words.entry.segment done.1 done.0.status done.0.lines.items)
@@ -186,7 +198,7 @@ fn search_segment<'n, W: World>(
     if let Err(refusal) = test_outputs(world, witness, leaves, &names) {
         return Ok((mistaken(alloc), Did::Refused(refusal)));
     }
-    let mut transcript = world.open(files.transcript)?;
+    let mut transcript = open_transcript(world, files.transcript, words.torn)?;
     let mut declaration = world.open(files.declaration)?;
     world.test_output(witness)?;
     test_leaves(world, leaves)?;
@@ -202,7 +214,7 @@ fn search_segment<'n, W: World>(
     if ran.status == Status::Refused {
         world.hint_kind(&names, &ran.lines);
     }
-    let said = say_seals(alloc, Voice::Lines, words.expected, ran);
+    let said = say_seals(alloc, Voice::Lines, words.expected, transcript.torn(), ran);
     let (file, more) = make_files(world, witness, &made, leaves, &left, said.status)?;
     Ok((
         said,

@@ -1,8 +1,8 @@
 //! What a session needs of the world.
 
-ghost use Rattle.std.specs.Prelude.{◌≡◌, ◌≤◌, [], ℕ, List, Bool, IsTrue, IfOk, IfSome, length};
+ghost use Rattle.std.specs.Prelude.{◌≡◌, ◌≤◌, None, [], ℕ, List, Bool, IsTrue, IfOk, IfSome, length};
 ghost use Rattle.kmipa_ttlv.specs.Input.{came_of};
-ghost use Rattle.kmipa_session.specs.Worlds.{input_of, name_of};
+ghost use Rattle.kmipa_session.specs.Worlds.{input_of, name_of, torn_of};
 
 use crate::folder::Folder;
 use crate::named::Named;
@@ -44,6 +44,13 @@ pub trait World {
 
     /// Opens a file to be read. Why it can't be is told on standard error.
     fn open<'n>(&self, name: &'n str) -> Result<Named<'n, Self::File>, Self::Refusal>
+        ensures name { IfOk result (λ file. name_of file ≡ name.now) }
+        ensures fresh { IfOk result (λ file. came_of (input_of file) ≡ []) }
+        ensures whole { IfOk result (λ file. torn_of file ≡ None) };
+
+    /// Opens a transcript that may be torn. Where it is sealed and has no close, its reads give its whole records, and then a close of their own in
+    /// place of what else it has; the file tells where that is. Why it can't be opened is told on standard error.
+    fn open_torn<'n>(&self, name: &'n str) -> Result<Named<'n, Self::File>, Self::Refusal>
         ensures name { IfOk result (λ file. name_of file ≡ name.now) }
         ensures fresh { IfOk result (λ file. came_of (input_of file) ≡ []) };
 

@@ -4,7 +4,7 @@ use Rattle.kmipa_segments.proofs.ChainingLemmas.{more_next, none_more}
 use Rattle.kmipa_session.proofs.chaining.judge_in_turn.Goals as goal
 
 pub segments-init : goal.segments-init
-segments-init g c = record { within = omega arith; declared = c.requires; joins = none_more c.args.chain.now.held }
+segments-init g c = record { within = omega arith; declared = c.requires; joins = none_more c.args.chain.now }
 
 pub segments-preserved : goal.segments-preserved
 segments-preserved g c = record {
@@ -16,5 +16,5 @@ segments-preserved g c = record {
 pub returns : goal.returns
 returns g c = λ done.
     let whole : c.segments.place ≡ length c.args.segments.now = omega (arith, c.segments-test.false, c.segments.invariant.within) in
-    let P : ℕ → Type 0 = λ n. AreNextOf c.args.chain.now.held c.segments.chain.held n in
+    let P : ℕ → Type 0 = λ n. AreNextOf c.args.chain.now c.segments.chain n in
     subst P whole c.segments.invariant.joins

@@ -11,5 +11,5 @@ abbrev pub invariant-segments : goal.invariant-segments
 invariant-segments g l = record {
   within : l.place ≤ length l.segments;
   declared : AreDeclared (declaration_of l.chain.held.declaration);
-  joins : AreNextOf l.initial.chain.held l.chain.held l.place;
+  joins : AreNextOf l.initial.chain l.chain l.place;
 }

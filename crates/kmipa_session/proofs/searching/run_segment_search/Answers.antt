@@ -9,6 +9,6 @@ returns g c =
     let made = g.W.World.made in
     let lacked = g.W.World.lacked in
     let segment = c.args.words.segment in
-    told_what made lacked Lines (λ what said lines. HasSearchedSegment made lacked c.args.words.files
+    told_what made lacked Lines (λ what said lines. HasSearchedSegment made lacked c.args.words.files c.args.words.torn
     c.args.words.search segment c.args.words.expected what said lines ⊎ IsUntold segment what said lines) c.search_segment-done.result c.tell_done.result.did _ _ _ _
     c.search_segment-done.ensures c.tell_done.ensures

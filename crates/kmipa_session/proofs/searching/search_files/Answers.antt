@@ -1,4 +1,6 @@
-use Rattle.std.proofs.Common.{◌≡◌, ◌∙◌, inl, List, ℕ, rules, subst}
+use Rattle.std.proofs.Common.{◌≡◌, ◌∙◌, inl, List, ℕ, Option, rules, subst}
+use Rattle.kmipa_record.specs.declared.torn.Torn.{Torn}
+use Rattle.kmipa_session.specs.Printing.{voice_of}
 use Rattle.kmipa_session.specs.Sealing.{SaysSeals}
 use Rattle.kmipa_session.specs.Sessions.{IsMade}
 use Rattle.kmipa_session.specs.declared.voice.Voice.{Voice}
@@ -11,11 +13,13 @@ returns g c =
     let ran = run.result.0 in
     let bytes = run.result.1.items in
     let said = c.say_seals-said.result in
-    let P : Voice → Type 0 = λ v. SaysSeals v c.args.words.expected ran.head ran.status ran.lines.items said.status said.lines.items in
+    let P : Voice → Type 0 = λ v. SaysSeals v c.args.words.expected c.torn.result ran.head ran.status ran.lines.items said.status said.lines.items in
+    let S : Option Torn → Type 0 = λ t. SaysSeals (voice_of c.args.form) c.args.words.expected t ran.head ran.status ran.lines.items said.status said.lines.items in
     let Q : List ℕ → Type 0 = λ b. IsMade made c.args.words.files.out.now b said.status c.in_ok-file.file in
     let same : c.deref-2.result.now ≡ bytes = search rules in
     inl (
       run.ensures.transcript ∙ c.in_ok-transcript.ensures.name,
+      λ e. run.ensures.torn ∙ c.in_ok-transcript.ensures.opened e,
       run.ensures.declaration ∙ c.in_ok-declaration.ensures.name,
-      (bytes, (ran, run.ensures.searches, run.ensures.known, subst P c.voice_of.ensures c.say_seals-said.ensures), subst Q same c.in_ok-file.ensures),
+      (bytes, (ran, run.ensures.searches, run.ensures.known, subst S c.torn.ensures (subst P c.voice_of.ensures c.say_seals-said.ensures)), subst Q same c.in_ok-file.ensures),
     )
