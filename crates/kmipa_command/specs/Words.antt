@@ -14,6 +14,7 @@ use Rattle.kmipa_session.specs.declared.job.AnswerWords.{AnswerWords}
 use Rattle.kmipa_session.specs.declared.job.FormWords.{FormWords}
 use Rattle.kmipa_session.specs.declared.job.Job.{Job}
 use Rattle.kmipa_session.specs.declared.job.Job.TheVariants.{Chain, Check, Search, Show, Write}
+use Rattle.kmipa_session.specs.declared.job.SealWords.{SealWords}
 use Rattle.kmipa_session.specs.declared.job.SegmentWords.{SegmentWords}
 use Rattle.kmipa_command.specs.declared.words.Usage.{Usage}
 
@@ -51,9 +52,9 @@ check_texts_app = with_rule (with_rule check_files_app (flag_rule (codes "explai
 abbrev pub check_segment_app : App
 check_segment_app = with_rule (with_rule check_texts_app (option_rule (codes "leaves"))) (option_rule (codes "not-before"))
 
--- and after that `[--head HEX]`
+-- and after that `[--head HEX] [--torn]`
 abbrev pub check_app : App
-check_app = with_rule check_segment_app (option_rule (codes "head"))
+check_app = with_rule (with_rule check_segment_app (option_rule (codes "head"))) (flag_rule (codes "torn"))
 
 -- `search TRANSCRIPT DECLARATION OUT`
 abbrev pub search_files_app : App
@@ -72,9 +73,9 @@ search_texts_app = with_rule (with_rule search_steps_app (flag_rule (codes "expl
 abbrev pub search_segment_app : App
 search_segment_app = with_rule (with_rule search_texts_app (option_rule (codes "leaves"))) (option_rule (codes "not-before"))
 
--- and after that `[--head HEX]`
+-- and after that `[--head HEX] [--torn]`
 abbrev pub search_app : App
-search_app = with_rule search_segment_app (option_rule (codes "head"))
+search_app = with_rule (with_rule search_segment_app (option_rule (codes "head"))) (flag_rule (codes "torn"))
 
 -- `chain DIR [--budget N] [--quiet]`
 abbrev pub chain_steps_app : App
@@ -125,9 +126,13 @@ IsSegment segment rows = IsText (codes "leaves") rows segment.leaves × IsText (
 abbrev pub IsForm : FormWords → List Row → Type 0
 IsForm form rows = IsFlag (codes "json") rows form.json × IsFlag (codes "explain") rows form.explain
 
+-- these values ask this of the seals
+abbrev pub IsSealed : SealWords → List Row → Type 0
+IsSealed seals rows = IsText (codes "head") rows seals.head × IsFlag (codes "torn") rows seals.torn
+
 -- these values ask for this answer
 abbrev pub IsAnswer : AnswerWords → List Row → Type 0
-IsAnswer words rows = IsForm words.form rows × IsSegment words.segment rows × IsText (codes "head") rows words.seals.head
+IsAnswer words rows = IsForm words.form rows × IsSegment words.segment rows × IsSealed words.seals rows
 
 -- these values are of this check
 abbrev pub IsCheck : Job → List Row → Type 0

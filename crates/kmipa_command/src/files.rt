@@ -2,6 +2,8 @@
 
 ghost use Rattle.std.specs.Prelude.{◌≤◌, length};
 
+use crate::held_file::HeldFile;
+use kmipa_record::{Torn, complete};
 use std::fs::OpenFile;
 use std::io::{BufReader, Read};
 use std::rt::Files;
@@ -23,6 +25,34 @@ pub fn open_file<R: Files + AllocGlobal + Eprint>(
     name: &str,
 ) -> io::Result<BufReader<R::File>> {
     reported(rt, name, opened(rt, name))
+}
+
+/// Opens a transcript that may be torn, and holds what it has. Where it is torn, a close stands behind its whole records in place of what else it has.
+/// Why it can't be opened is reported on standard error.
+pub fn open_torn_file<R: Files + AllocGlobal + Eprint>(
+    rt: &R,
+    name: &str,
+) -> io::Result<(HeldFile<R::File>, Option<Torn>)> {
+    reported(rt, name, opened_torn(rt, name))
+}
+
+fn opened_torn<R: Files + AllocGlobal>(
+    rt: &R,
+    name: &str,
+) -> io::Result<(HeldFile<R::File>, Option<Torn>)> {
+    let mut file = opened(rt, name)?;
+    let mut held = Vec::new(rt.alloc());
+    if let Err(error) = file.read_to_end(&mut held) {
+        if error.kind() == io::ErrorKind::OutOfMemory {
+            return Err(error);
+        }
+        // What came is judged, and then that the file can't be read.
+        return Ok((HeldFile::held(held, Some(file)), None));
+    }
+    match complete(rt.alloc(), &mut held)? {
+        Some(torn) => Ok((HeldFile::held(held, None), Some(torn))),
+        None => Ok((HeldFile::held(held, Some(file)), None)),
+    }
 }
 
 /// Opens a file, and tells nothing where it can't be opened.

@@ -5,14 +5,14 @@ ghost use Rattle.std.specs.Prelude.{◌≡◌, [], ◌++◌};
 ghost use Rattle.std.specs.IoError.{error_kind};
 ghost use Rattle.kmipa_command.specs.Sessions.{is_memory};
 
-use crate::files::{hint_digits, hint_kind, open_file, opened};
+use crate::files::{hint_digits, hint_kind, open_file, open_torn_file, opened};
 use crate::folders::read_folder;
+use crate::held_file::HeldFile;
 use crate::progress::Progress;
 use crate::replacing::{are_one_output, is_input, replace_both, replace_file, test_output};
 use kmipa_session::{Content, Folder, Named, World};
 use kmipa_ttlv::History;
 use std::io;
-use std::io::BufReader;
 use std::os::fd::AsFd;
 use std::rt::{Clock, Files};
 
@@ -51,7 +51,7 @@ fn made_of(file: Content<'_>) -> MadeFile
 }
 
 impl<'a, R: Files<File: AsFd> + Clock + AllocGlobal + Eprint + Clone + Drop> World for Host<'a, R> {
-    type File = BufReader<R::File>;
+    type File = HeldFile<R::File>;
 
     type Watcher = Progress<'a, R>;
 
@@ -63,12 +63,19 @@ impl<'a, R: Files<File: AsFd> + Clock + AllocGlobal + Eprint + Clone + Drop> Wor
 
     ghost lacked = { λ error. is_memory (error_kind error) };
 
-    fn open<'n>(&self, name: &'n str) -> Result<Named<'n, BufReader<R::File>>, io::Error> {
-        Ok(Named::over(name, open_file(self.rt, name)?))
+    fn open<'n>(&self, name: &'n str) -> Result<Named<'n, HeldFile<R::File>>, io::Error> {
+        let file = open_file(self.rt, name)?;
+        Ok(Named::over(name, HeldFile::over(self.rt.alloc(), file)))
     }
 
-    fn peek<'n>(&self, name: &'n str) -> Option<Named<'n, BufReader<R::File>>> {
-        Some(Named::over(name, opened(self.rt, name).ok()?))
+    fn open_torn<'n>(&self, name: &'n str) -> Result<Named<'n, HeldFile<R::File>>, io::Error> {
+        let (file, torn) = open_torn_file(self.rt, name)?;
+        Ok(Named::over_torn(name, file, torn))
+    }
+
+    fn peek<'n>(&self, name: &'n str) -> Option<Named<'n, HeldFile<R::File>>> {
+        let file = opened(self.rt, name).ok()?;
+        Some(Named::over(name, HeldFile::over(self.rt.alloc(), file)))
     }
 
     fn test_distinct(&self, output: &str, inputs: &[&str]) -> Result<(), io::Error> {

@@ -3,6 +3,7 @@
 
 mod files;
 mod folders;
+mod held_file;
 mod host;
 mod output;
 mod progress;
@@ -10,6 +11,7 @@ mod replacing;
 mod session;
 mod words;
 
+pub use held_file::HeldFile;
 pub use host::{Host, MadeFile};
 pub use output::Output;
 pub use session::{run_session, words_of};

@@ -4,7 +4,7 @@ ghost use Rattle.std.specs.Prelude.{◌≡◌, ◌≢◌, ◌⊎◌, ◌||◌, i
 ghost use Rattle.clap.specs.Words.{app_of, rule_of, rows_of, found_of, kind_of, subcommand_of, subcommand_rows_of, fault_of};
 ghost use Rattle.clap.specs.declared.builder.command.Command.TheViews.{out-Command};
 ghost use Rattle.kmipa_runs.specs.Statuses.{IsSilent};
-ghost use Rattle.kmipa_command.specs.Words.{program_app, check_app, check_files_app, check_segment_app, check_texts_app, search_app, search_files_app, search_segment_app, search_steps_app, search_texts_app, show_app, write_app, chain_app, chain_steps_app, budget_rule, file_rule, flag_rule, option_rule, status_of, IsAnswer, IsChain, IsCheck, IsForm, IsJob, IsSearch, IsSegment, IsTold};
+ghost use Rattle.kmipa_command.specs.Words.{program_app, check_app, check_files_app, check_segment_app, check_texts_app, search_app, search_files_app, search_segment_app, search_steps_app, search_texts_app, show_app, write_app, chain_app, chain_steps_app, budget_rule, file_rule, flag_rule, option_rule, status_of, IsAnswer, IsChain, IsCheck, IsForm, IsJob, IsSealed, IsSearch, IsSegment, IsTold};
 
 use clap::builder::ValueParser;
 use clap::error::ErrorKind;
@@ -50,6 +50,8 @@ const NOT_BEFORE: &str = "not-before";
 
 const HEAD: &str = "head";
 
+const TORN: &str = "torn";
+
 const MESSAGES: &str = "messages";
 
 const NOTES: &str = "notes";
@@ -93,6 +95,9 @@ a no by reason 2. A date is written as 2023-11-14T22:13:20Z or as a number of se
 Of a sealed transcript the last line behind a verdict is 'sealed: RECORDING segment N head HEX'. Where --head gives
 another head, or the transcript bears no seals, 'head: HEX, expected HEX' stands in place of the verdict.
 
+A sealed transcript without its close, as a killed recorder leaves it, is refused. With --torn it is judged up to its last
+whole record, and ' torn' stands behind HEX; where part of a record is left out, ' torn after N bytes'.
+
 Status: 0 yes; 1 no; 2 a file is refused; 3 a device failed or memory ran out; 64 wrong words";
 
 const SEARCH_HELP: &str = "\
@@ -120,6 +125,9 @@ order that takes a call at an earlier stamp is one, so an answered call that is 
 
 Of a sealed transcript the last line behind an answer is 'sealed: RECORDING segment N head HEX'. Where --head gives
 another head, or the transcript bears no seals, 'head: HEX, expected HEX' stands in its place, and nothing is written.
+
+A sealed transcript without its close, as a killed recorder leaves it, is refused. With --torn it is searched up to its
+last whole record, and ' torn' stands behind HEX; where part of a record is left out, ' torn after N bytes'.
 
 Where standard error is a terminal, a long search tells there once a second how far it got, unless --quiet is given.
 
@@ -164,8 +172,8 @@ pub struct Usage {
 
 /// The job that the words of a command line name, the first of which is the program's name.
 ///
-/// - `kmip_audit check TRANSCRIPT DECLARATION WITNESS [--explain] [--json] [--leaves OUT] [--not-before DATE] [--head HEX]`
-/// - `kmip_audit search TRANSCRIPT DECLARATION OUT [--budget N] [--forced] [--open] [--quiet] [--explain] [--json] [--leaves LEFT] [--not-before DATE] [--head HEX]`, N from 0 to 1,000,000,000
+/// - `kmip_audit check TRANSCRIPT DECLARATION WITNESS [--explain] [--json] [--leaves OUT] [--not-before DATE] [--head HEX] [--torn]`
+/// - `kmip_audit search TRANSCRIPT DECLARATION OUT [--budget N] [--forced] [--open] [--quiet] [--explain] [--json] [--leaves LEFT] [--not-before DATE] [--head HEX] [--torn]`, N from 0 to 1,000,000,000
 /// - `kmip_audit chain DIR [--budget N] [--quiet] [--leaves OUT]`
 /// - `kmip_audit show FILE [--messages] [--notes]`
 /// - `kmip_audit write HEX OUT`
@@ -203,7 +211,9 @@ fn check<'a>(alloc: Global) -> Result<Command<'a>, AllocError>
     ensures app { IfOk result (λ command. app_of command ≡ check_app) }
     ensures local { IfOk result (λ command. (out-Command command).has_globals ≡ false) }
 {
-    check_with_segment(alloc)?.arg(head(alloc))
+    check_with_segment(alloc)?
+        .arg(head(alloc))?
+        .arg(torn(alloc))
 }
 
 /// A check with the options of what it prints, and of a segment.
@@ -243,7 +253,9 @@ fn search<'a>(alloc: Global) -> Result<Command<'a>, AllocError>
     ensures app { IfOk result (λ command. app_of command ≡ search_app) }
     ensures local { IfOk result (λ command. (out-Command command).has_globals ≡ false) }
 {
-    search_with_segment(alloc)?.arg(head(alloc))
+    search_with_segment(alloc)?
+        .arg(head(alloc))?
+        .arg(torn(alloc))
 }
 
 /// A search with the options of how it searches, of what it prints, and of a segment.
@@ -425,6 +437,18 @@ fn head<'a>(alloc: Global) -> Arg<'a>
     )
 }
 
+/// That a transcript may be torn.
+fn torn<'a>(alloc: Global) -> Arg<'a>
+    ensures rule { rule_of result ≡ flag_rule (codes "torn") }
+    ensures local { result.global ≡ false }
+{
+    flag(
+        alloc,
+        TORN,
+        "Judges a sealed transcript without its close up to its last whole record",
+    )
+}
+
 /// An option that has a value where it is given.
 fn option<'a>(alloc: Global, name: &'a str, value: &'a str, about: &'a str) -> Arg<'a>
     ensures rule { rule_of result ≡ option_rule name.entry.now }
@@ -491,9 +515,16 @@ fn answer_of<'a>(words: &ArgMatches<'a>) -> AnswerWords<'a>
     AnswerWords {
         form: form_of(words),
         segment: segment_of(words),
-        seals: SealWords {
-            head: words.get_str(HEAD),
-        },
+        seals: seals_of(words),
+    }
+}
+
+fn seals_of<'a>(words: &ArgMatches<'a>) -> SealWords<'a>
+    ensures { IsSealed result (rows_of (found_of words.now)) }
+{
+    SealWords {
+        head: words.get_str(HEAD),
+        torn: words.get_flag(TORN),
     }
 }
 
