@@ -11,6 +11,7 @@ mod ledgers;
 mod lives;
 mod messages;
 mod reading;
+mod refuting;
 mod searching;
 mod spelled;
 mod streams;
