@@ -64,6 +64,16 @@ class Auditor:
         more = [] if budget is None else ["--budget", str(budget)]
         return self._verdict("search", transcript, declaration, out, "--quiet", *more)
 
+    def chain(self, folder: str, budget: int) -> tuple[str, int]:
+        """What a chain prints of a folder of segments, and its status."""
+        try:
+            done = self._run("chain", folder, "--budget", str(budget))
+        except subprocess.TimeoutExpired:
+            return "\n".join(self._late().lines) + "\n", UNDECIDED
+        if done.returncode == USAGE or not done.stdout:
+            raise Trouble(" ".join(done.stderr.split()) or f"kmip_audit chain ended with status {done.returncode}")
+        return done.stdout, done.returncode
+
     def show_each(self, path: str, *words: str) -> Iterator[str]:
         """The lines of a file's items, one after the other; up to where its time is over."""
         try:

@@ -1,13 +1,31 @@
-"""The common name of a certificate in DER, as far as a recorder needs to read one."""
+"""A certificate in DER, as far as a recorder needs to read one: its common name, and by what it is known again."""
 
 from __future__ import annotations
 
-from typing import Iterator, Optional
+import hashlib
+import ssl
+from typing import Iterator, NamedTuple, Optional
 
 VERSION = 0xA0
 COMMON_NAME = bytes.fromhex("550403")
 # Of a certificate's body: serial number, algorithm, issuer and validity stand ahead of the subject.
 FIELDS_AHEAD_OF_SUBJECT = 4
+# How the kinds of texts are spelled; all others have a byte for each character.
+SPELLINGS = {0x0C: "utf-8", 0x1C: "utf-32-be", 0x1E: "utf-16-be"}
+
+
+class Shown(NamedTuple):
+    """What is kept of a certificate: its common name, and its SHA-256 in hexadecimal digits."""
+
+    common_name: Optional[str]
+    digest: str
+
+
+def shown_on(made: ssl.SSLSocket) -> Shown:
+    """The certificate of the other end of a connection whose handshake is over. Python's own reading of one refuses
+    what an authority signs without a look, as a name that is no text."""
+    certificate = made.getpeercert(True) or b""
+    return Shown(common_name(certificate), hashlib.sha256(certificate).hexdigest())
 
 
 def common_name(certificate: bytes) -> Optional[str]:
@@ -23,9 +41,9 @@ def common_name(certificate: bytes) -> Optional[str]:
 def _name_in(subject: bytes) -> Optional[str]:
     for _, part in _elements(subject):
         for _, pair in _elements(part):
-            (_, attribute), (_, value) = _elements(pair)
+            (_, attribute), (kind, value) = _elements(pair)
             if attribute == COMMON_NAME:
-                return value.decode("utf-8", "replace")
+                return value.decode(SPELLINGS.get(kind, "latin-1"), "replace")
     return None
 
 

@@ -22,6 +22,9 @@ class Side(Enum):
     CLIENT = ("Request Message", 0x420078, 0x420077)
     SERVER = ("Response Message", 0x42007B, 0x42007A)
 
+    # Tables by sides are looked into for each message; that of an enumeration takes longer.
+    __hash__ = object.__hash__
+
     def __init__(self, message_name: str, message_tag: int, header_tag: int) -> None:
         self.message_name = message_name
         self.message_tag = message_tag

@@ -3,13 +3,13 @@
 from __future__ import annotations
 
 import asyncio
-import hashlib
 import socket
 import ssl
 from typing import Callable, Optional
 
 from . import message, tls
 from .address import Address
+from .certificate import Shown, shown_on
 from .handshakes import HANDSHAKES
 from .message import Side
 from .stream import Stream
@@ -24,46 +24,51 @@ SECONDS_TO_GREET = 10
 class Peer:
     """A client or the server, over TLS. `gone` is done as soon as its connection is closed or broken."""
 
-    def __init__(self, stream: Stream, side: Side) -> None:
+    def __init__(self, stream: Stream, side: Side, shown: Shown) -> None:
+        """`shown` is the certificate that was shown in the handshake: whoever is gone by now has shown it too."""
         self._stream = stream
         self._side = side
+        self.shown = shown
         self._who = "the client" if side is Side.CLIENT else "the server"
         self.gone = stream.gone
         self._is_waited_for = True
         self._is_idle = False
-
-    def common_name(self) -> Optional[str]:
-        """The common name in the peer's certificate."""
-        subject = self._stream.certificate()[0].get("subject", ())
-        names = [value for part in subject for key, value in part if key == "commonName"]
-        return names[0] if names else None
-
-    def certificate_digest(self) -> str:
-        """SHA-256 of the peer's certificate, in hexadecimal digits."""
-        return hashlib.sha256(self._stream.certificate()[1]).hexdigest()
+        self._loop = asyncio.get_running_loop()
+        self._limit: Optional[asyncio.TimerHandle] = None
+        self._awaited_since: Optional[float] = None
 
     async def receive_within(self, seconds: float) -> Optional[bytes]:
         """The next message, as `receive` has it; refused where it is not whole in time."""
-        limit = asyncio.get_running_loop().call_later(seconds, self._end_idleness)
+        self._awaited_since = self._loop.time()
+        if self._limit is None:
+            self._limit = self._loop.call_later(seconds, self._see_idle, seconds)
         try:
             received = await self.receive()
         finally:
-            limit.cancel()
+            self._awaited_since = None
         if received is None and self._is_idle:
             raise ConnectionTrouble(f"no whole request came in {seconds:g} s")
         return received
 
-    def _end_idleness(self) -> None:
-        self._is_idle = True
-        self.stop_waiting()
+    def _see_idle(self, seconds: float) -> None:
+        """Ends a wait that took too long. There is one timer for all waits, since one for each takes its time."""
+        waited = 0.0 if self._awaited_since is None else self._loop.time() - self._awaited_since
+        if waited < seconds:
+            self._limit = self._loop.call_later(seconds - waited, self._see_idle, seconds)
+        else:
+            self._is_idle = True
+            self.stop_waiting()
 
     async def receive(self) -> Optional[bytes]:
         """The next message, once it is whole; None where the peer closed ahead of its first byte, or where it is no
         longer waited for."""
         try:
-            header = await self._stream.exactly(HEADER_LENGTH)
-            length = message.announced_length(header, self._side)
-            received = header + await self._stream.exactly(length - HEADER_LENGTH)
+            if not self._stream.has(HEADER_LENGTH):
+                await self._stream.wait_for(HEADER_LENGTH)
+            length = message.announced_length(self._stream.first(HEADER_LENGTH), self._side)
+            if not self._stream.has(length):
+                await self._stream.wait_for(length)
+            received = self._stream.take(length)
         except asyncio.IncompleteReadError as torn:
             if not self._is_waited_for:
                 return None
@@ -104,6 +109,8 @@ class Peer:
 
     async def close(self) -> None:
         """Closes the connection; one that does not close in time is dropped."""
+        if self._limit:
+            self._limit.cancel()
         await self._stream.close(SECONDS_TO_CLOSE)
 
 
@@ -117,7 +124,7 @@ async def accept(connection: socket.socket, context: ssl.SSLContext,
         raise ConnectionTrouble(f"no TLS with the client: it was not through in {SECONDS_TO_GREET} s") from None
     except OSError as error:
         raise ConnectionTrouble(f"no TLS with the client: {tls.meaning(error)}") from None
-    return Peer(Stream(made), Side.CLIENT)
+    return _peer(made, Side.CLIENT)
 
 
 async def connect(server: Address, context: ssl.SSLContext) -> Peer:
@@ -130,7 +137,14 @@ async def connect(server: Address, context: ssl.SSLContext) -> Peer:
         raise ConnectionTrouble(f"no TLS with the server at {server}: {tls.meaning(error)}") from None
     except OSError as error:
         raise ConnectionTrouble(f"no server at {server}: {tls.meaning(error)}") from None
-    return Peer(Stream(made), Side.SERVER)
+    return _peer(made, Side.SERVER)
+
+
+def _peer(made: ssl.SSLSocket, side: Side) -> Peer:
+    """The other end of a connection whose handshake is over. Its certificate is taken first: the stream closes the
+    socket as soon as it finds that nobody is there any more."""
+    shown = shown_on(made)
+    return Peer(Stream(made), side, shown)
 
 
 async def _made(server: Address, context: ssl.SSLContext) -> ssl.SSLSocket:

@@ -7,7 +7,7 @@ import contextlib
 import errno
 import os
 import ssl
-from typing import Any, Optional
+from typing import Optional
 
 PIECE = 1 << 16
 # So many bytes are read ahead of whoever takes them.
@@ -33,12 +33,12 @@ class Stream:
         self.gone: asyncio.Future[None] = self._loop.create_future()
         self._read_on()
 
-    def certificate(self) -> tuple[dict[str, Any], bytes]:
-        """That of the other end: what stands in it, and its bytes."""
-        return self._socket.getpeercert() or {}, self._socket.getpeercert(True) or b""
+    def has(self, count: int) -> bool:
+        """Whether so many bytes are there."""
+        return len(self._came) >= count
 
-    async def exactly(self, count: int) -> bytes:
-        """The next bytes, so many; torn where no more come."""
+    async def wait_for(self, count: int) -> None:
+        """Comes back when so many bytes are there; torn where no more come."""
         self._wanted = count
         while len(self._came) < count:
             if self._is_over:
@@ -51,6 +51,13 @@ class Stream:
                 await self._reading
             finally:
                 self._reading = None
+
+    def first(self, count: int) -> bytes:
+        """So many of the bytes that are there, which stay there."""
+        return bytes(self._came[:count])
+
+    def take(self, count: int) -> bytes:
+        """So many of the bytes that are there."""
         found = bytes(self._came[:count])
         del self._came[:count]
         return found
@@ -136,13 +143,17 @@ class Stream:
             # It goes on behind what is read next.
             return
         except ssl.SSLWantWriteError:
-            self._loop.add_writer(self._number, self._push)
+            self._loop.add_writer(self._number, self._push_on)
             return
         except OSError as error:
             self._lose(error)
             return
-        self._loop.remove_writer(self._number)
         _wake(self._sending)
+
+    def _push_on(self) -> None:
+        """The system takes more."""
+        self._loop.remove_writer(self._number)
+        self._push()
 
     def _lose(self, error: Optional[OSError]) -> None:
         """The other end has closed the connection, or it broke."""

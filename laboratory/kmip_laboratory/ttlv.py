@@ -41,6 +41,9 @@ STRUCTURE, INTEGER, BIG_INTEGER, ENUMERATION, BOOLEAN, TEXT, BYTES, DATE_TIME, D
 # By the plain numbers of types, for the same reason.
 KINDS: dict[int, Kind] = {kind.value: kind for kind in Kind}
 LENGTHS: dict[int, int] = {kind.value: 4 if kind in SHORT_NUMBERS else 8 for kind in SHORT_NUMBERS + LONG_NUMBERS}
+# Of those of which any value will do.
+PLAIN_LENGTHS = {number: length for number, length in LENGTHS.items() if number != BOOLEAN}
+BOOLEANS = (bytes(8), bytes(7) + b"\x01")
 NUMBERS: dict[int, struct.Struct] = {kind.value: struct.Struct(form) for kind, form in {
     Kind.INTEGER: ">i", Kind.LONG_INTEGER: ">q", Kind.ENUMERATION: ">I", Kind.BOOLEAN: ">Q", Kind.DATE_TIME: ">q",
     Kind.INTERVAL: ">I", Kind.DATE_TIME_EXTENDED: ">q"}.items()}
@@ -157,7 +160,8 @@ def read_item(data: bytes, level: int = 1) -> Item:
 def see_item(data: bytes) -> None:
     """Refuses bytes that are not one item, as `read_item` does, and makes nothing of them."""
     _see_outermost(data)
-    _see_items(data, 0, len(data), 1)
+    if not _are_plain(data, 0, len(data), 1):
+        _see_items(data, 0, len(data), 1)
 
 
 def _see_outermost(data: bytes) -> None:
@@ -208,6 +212,30 @@ def _read_items(data: bytes, start: int, stop: int, level: int) -> list[Item]:
             value = _value(kind, data, place, length)
         items.append(new(Item, (number >> 8, kind, value, place)))
     return items
+
+
+def _are_plain(data: bytes, start: int, stop: int, level: int) -> bool:
+    """Whether these are items as nearly all are, so that nothing of them is to be refused; what else they are is for
+    `_see_items` to say, which takes twice as long."""
+    unpack, lengths = HEADER.unpack_from, PLAIN_LENGTHS
+    while stop - start >= HEADER_LENGTH:
+        number, length = unpack(data, start)
+        kind = number & 0xFF
+        start += HEADER_LENGTH
+        if lengths.get(kind) == length:
+            start += 8
+        elif kind == STRUCTURE:
+            if length % 8 or level == DEEPEST_LEVEL or start + length > stop or not _are_plain(
+                    data, start, start + length, level + 1):
+                return False
+            start += length
+        elif kind == TEXT and data[start:start + length].isascii() or kind == BYTES:
+            start += length + -length % 8
+        elif kind == BOOLEAN and length == 8 and data[start:start + 8] in BOOLEANS:
+            start += 8
+        else:
+            return False
+    return start == stop
 
 
 def _see_items(data: bytes, start: int, stop: int, level: int) -> None:

@@ -24,6 +24,11 @@ class Untranslated:
         if version is not None and version in TRANSLATED:
             self._counts[version] += 1
 
+    @property
+    def has_some(self) -> bool:
+        """Whether any was seen."""
+        return bool(self._counts)
+
     def tell(self) -> None:
         """Tells what was seen, if anything was."""
         if self._counts:

@@ -44,7 +44,8 @@ LINES_OF_A_NO = 2
 DECIDED = "decided: "
 NEXT = re.compile(r"next: call (?P<call>\d+) item (?P<item>\d+) why (?P<number>\d+) (?P<name>\w+)")
 # Of a sealed transcript, behind all others: which recording and segment it is, and its last seal.
-SEALED = re.compile(r"sealed: (?P<recording>.*) segment (?P<segment>\d+) head (?P<head>[0-9a-f]{64})(?P<torn> torn)?")
+SEALED = re.compile(r"sealed: (?P<recording>.*) segment (?P<segment>\d+) head (?P<head>[0-9a-f]{64})"
+                    r"(?P<torn> torn(?: after \d+ bytes)?)?")
 
 
 class Seal(NamedTuple):

@@ -20,11 +20,11 @@ def make_authority(folder: Path, name: str = "authority") -> None:
 
 
 def make_certificates(folder: Path, names: Sequence[str], authority: str = "authority",
-                      subject: str = "/O=Test/CN={name}") -> None:
-    """For each name a certificate that the authority signed, NAME.pem and NAME.key."""
+                      subject: str = "/O=Test/CN={name}", also: str = "IP:127.0.0.1") -> None:
+    """For each name a certificate that the authority signed, NAME.pem and NAME.key; `also` is its other name."""
     for name in names:
         _openssl(folder, "req", *NEW_KEY, "-subj", subject.format(name=name), "-keyout", f"{name}.key",
                  "-out", f"{name}.csr")
-        (folder / "uses").write_text("extendedKeyUsage=clientAuth,serverAuth\nsubjectAltName=IP:127.0.0.1\n")
+        (folder / "uses").write_text(f"extendedKeyUsage=clientAuth,serverAuth\nsubjectAltName={also}\n")
         _openssl(folder, "x509", "-req", "-in", f"{name}.csr", "-CA", f"{authority}.pem", "-CAkey",
                  f"{authority}.key", "-CAcreateserial", "-days", "2", "-extfile", "uses", "-out", f"{name}.pem")

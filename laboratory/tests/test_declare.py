@@ -150,11 +150,13 @@ class Rules(Laboratory):
                   "54003505000000040000000100000000" "54003602000000040000000000000000" "54003705000000040000000100000000")
         line = "5400380100000030" "54003905000000040000000600000000" "42008d05000000040000000200000000" "54003a05000000040000000300000000"
         self.assertEqual(self.declared("--allow", "Destroy,Active=not"), header + line)
+        tolerant = header.replace("54003602000000040000000000000000", "54003602000000040000000200000000")
+        self.assertEqual(self.declared("--tolerance", "2"), tolerant)
 
     def test_a_file_says_what_words_say(self) -> None:
         file = Path(self.folder) / "my.rules"
-        file.write_text("# a server\nunique-names\n\nreason 0x37=NotFound # why\nallow Destroy,Active=not\n", "utf-8")
-        words = ["--unique-names", "--reason", "0x37=NotFound", "--allow", "Destroy,Active=not"]
+        file.write_text("# a server\nunique-names\n\nreason 0x37=NotFound # why\nallow Destroy,Active=not\ntolerance 3\n", "utf-8")
+        words = ["--unique-names", "--reason", "0x37=NotFound", "--allow", "Destroy,Active=not", "--tolerance", "3"]
         self.assertEqual(self.declared("--rules", str(file)), self.declared(*words))
         self.assertEqual(self.declared("--rules", str(file), "--allow", "Destroy,Active=not"), self.declared(*words))
         self.assertIn("Destroy in state Active has two words: leave one of them away",
@@ -164,8 +166,11 @@ class Rules(Laboratory):
         self.assertIn("an object in state Destroyed is never open to Get, and no rule changes that",
                       self.declared("--allow", "Get,Destroyed=may"))
         self.assertIn("'Destroy=not' is no OPERATION,STATE=WORD", self.declared("--allow", "Destroy=not"))
+        for words in ("86401", "-1", "1.5", "x"):
+            self.assertIn("is no number of seconds from 0 to 86400", self.declared("--tolerance", words))
         file = Path(self.folder) / "my.rules"
         for text, told_so in (("unique names", "'unique names' is no rule"), ("reason 1=Nothing", "is no NUMBER=CAUSE"),
+                              ("tolerance", "is no number of seconds"),
                               ("allow Get,Destroyed=must", "is never open to Get")):
             file.write_text(f"unique-names\n{text}\n", "utf-8")
             self.assertRegex(self.declared("--rules", str(file)), rf"^kmip_record: {file}, line 2: .*{told_so}")

@@ -14,7 +14,7 @@ from laboratory import audit as checked
 
 from kmip_laboratory.auditor import Auditor
 from kmip_laboratory.driving import audit, calibrate, mixes, plan, wire
-from kmip_laboratory.driving.decide import PART, decide
+from kmip_laboratory.auditing.decide import PART, decide
 from kmip_laboratory.driving.faults import FAULTS, description
 from kmip_laboratory.driving.numbers import Operation
 from kmip_laboratory.driving.words import main

@@ -88,8 +88,8 @@ class Strangers(Laboratory):
         return time.monotonic() - begun
 
     def test_many_without_a_certificate_refuse_nobody_and_hold_nobody_up(self) -> None:
-        # A second, where the machine does nothing else.
-        limit = max(1.0, os.getloadavg()[0] / (os.cpu_count() or 1))
+        # Who had to wait for one of them would wait this twice; a machine that does much else takes a second or two for a handshake.
+        limit = peer.SECONDS_TO_GREET / 2
         for speaks in (False, True):
             with self.subTest(speaks=speaks):
                 recorder = self.start(self.stub(at_once).port, limit=None if speaks else FILES)

@@ -5,7 +5,7 @@ from __future__ import annotations
 import argparse
 import os
 import re
-from typing import TYPE_CHECKING
+from typing import TYPE_CHECKING, Optional
 
 from .. import fresh
 from ..hiding import Sort
@@ -52,13 +52,17 @@ def run(words: argparse.Namespace) -> None:
     half = len(words.files) // 2
     if len(words.files) % 2 or not half:
         words.parser.error("as many new names are needed as there are files")
-    kept = _kept(words)
-    sources, targets = words.files[:half], words.files[half:]
-    has_key = bool(words.key) and os.path.exists(words.key)
-    outs = targets + ([words.key] if words.key and not has_key else [])
-    see_apart(outs, sources + ([words.key] if has_key else []))
+    print(blind(words.files[:half], words.files[half:], _kept(words), words.key))
+
+
+def blind(sources: list[str], targets: list[str], kept: frozenset[Sort] = frozenset(),
+          key_file: Optional[str] = None) -> str:
+    """Blinds files into new ones, all or none, and answers the line that tells what was replaced."""
+    has_key = key_file is not None and os.path.exists(key_file)
+    outs = targets + ([key_file] if key_file and not has_key else [])
+    see_apart(outs, sources + ([key_file] if key_file and has_key else []))
     fresh.refuse_present(outs)
-    key = _key(words.key) if has_key else replacing.fresh_key()
+    key = _key(key_file) if key_file and has_key else replacing.fresh_key()
     bytes_of = replacing.Bytes(key)
     read = [read_unsealed(path) for path in sources]
     files = [Opened(path, data, bytes_of) for path, (data, _) in zip(sources, read)]
@@ -75,7 +79,7 @@ def run(words: argparse.Namespace) -> None:
     fresh.write_all([*zip(outs, made), *origins])
     for opened in files:
         opened.untranslated.tell()
-    print(_account(files, chosen))
+    return _account(files, chosen)
 
 
 def _key(path: str) -> bytes:

@@ -6,23 +6,20 @@ import asyncio
 from pathlib import Path
 from typing import NamedTuple
 
+from ..auditing.decide import decide
+from ..auditing.ending import REPORT, explained, report
 from ..auditor import Auditor
 from ..recording import declaration, inventory, rules
-from ..recordings import DECLARATION, TRANSCRIPT, WITNESS
-from ..reporting.judging import Asking
-from ..reporting.words import make_page
+from ..recordings import DECLARATION, TRANSCRIPT
+from ..reporting.words import Outputs
 from ..sifting import run as sifting
-from ..trouble import Trouble, say
+from ..trouble import Trouble
 from ..versions import Version
 from . import record
-from .decide import PART, Decision, decide
 from .drive import Job, drive
 
-REPORT = "report.html"
 # What was recorded, where something of it is forgotten.
 RECORDED = "recorded.ttlv"
-# The report of what no search decided asks for so many steps at most, since it searches once more.
-STEPS_OF_REPORT = 10_000
 
 
 class Wanted(NamedTuple):
@@ -50,18 +47,8 @@ def run(job: Job, wanted: Wanted, auditor: Auditor) -> int:
     _forget(wanted)
     decision = decide(folder, auditor, wanted.budget)
     print("\n".join(explained(folder, decision)), flush=True)
-    asking = Asking(min(wanted.budget, STEPS_OF_REPORT), others=True, program=auditor.program)
-    _report(folder / PART if decision.convicted else folder, folder / REPORT, asking)
+    report(folder, decision, wanted.budget, auditor.program, Outputs(str(folder / REPORT)))
     return decision.status
-
-
-def _report(recording: Path, page: Path, asking: Asking) -> None:
-    """The page of what was decided: of the calls that convict, where there are such."""
-    try:
-        make_page(str(page), str(recording), asking)
-        print(f"{page} shows it")
-    except Trouble as trouble:
-        say(f"no page was made of it: {trouble}")
 
 
 def _declare(job: Job, wanted: Wanted) -> None:
@@ -85,17 +72,3 @@ def _forget(wanted: Wanted) -> None:
         source, target = wanted.folder / RECORDED, wanted.folder / TRANSCRIPT
         target.rename(source)
         print(sifting.run(str(source), str(target), frozenset(), wanted.forgotten), flush=True)
-
-
-def explained(folder: Path, decision: Decision) -> list[str]:
-    """The lines that tell what came out, and where to look."""
-    if decision.explained:
-        return [decision.line, f"{folder / WITNESS} is an order that explains every answer"]
-    if decision.why is None:
-        return [decision.line]
-    numbers = ", ".join(map(str, decision.part))
-    lines = [decision.line, "no order explains what was recorded",
-             f"already these {len(decision.part)} calls can't be explained: {numbers}; they are in {folder / PART}",
-             f"in one order of them, that of {folder / PART / WITNESS}, kmip_audit check says:"]
-    lines += [f"  {line}" for line in (*decision.why.lines, *decision.why.explanation)]
-    return lines if decision.why.explanation else [*lines, "this auditor does not explain it: it has no --explain"]

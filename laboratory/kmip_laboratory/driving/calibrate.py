@@ -17,7 +17,7 @@ from ..recordings import TRANSCRIPT
 from ..transcript_writer import TranscriptWriter
 from ..verdicts import Verdict
 from . import certificates, mixes, record, simulate
-from .decide import Decision, decide
+from ..auditing.decide import Decision, decide
 from .drive import Job, drive
 from .engine import Engine
 from .faults import FAULTS

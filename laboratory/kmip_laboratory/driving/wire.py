@@ -111,7 +111,9 @@ def _named(item: Item) -> list[tuple[int, Item]]:
 
 def _read_value(item: Item) -> int | Name:
     if item.kind != Kind.STRUCTURE:
-        return int(item.value)
+        if not isinstance(item.value, int):
+            raise NotUnderstood("an attribute of another kind")
+        return item.value
     kind = item.first(Tag.NAME_TYPE, Kind.ENUMERATION)
     return Name(need(item.first(Tag.NAME_VALUE, Kind.TEXT)).value, kind.value if kind else 1)
 

@@ -67,9 +67,9 @@ class Connection:
         """Takes calls from the client until one of the sides closes."""
         client = await self._greet()
         try:
-            name = client.common_name()
+            name, digest = client.shown
             with self._way.admission.one_of(name or self._host):
-                known = f"{self.name}, certificate SHA-256 {client.certificate_digest()}, name {plain(name or 'none')}"
+                known = f"{self.name}, certificate SHA-256 {digest}, name {plain(name or 'none')}"
                 self.name = f"{name} {self.name}" if name and self._way.identities else name or self.name
                 with self._noted(known):
                     await self._serve(client, name)
@@ -117,7 +117,8 @@ class Connection:
             if request is None or server.gone.done():
                 return
             self._busy = True
-            await self._way.gate.room()
+            if self._way.gate.is_shut():
+                await self._way.gate.room()
             await self._take_call(client, server, request)
             self._busy = False
 

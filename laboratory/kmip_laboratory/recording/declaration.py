@@ -39,9 +39,9 @@ def run(rules: Rules, entries: list[Entry], out: str, force: bool) -> str:
     """Writes the declaration, and answers the line that tells of it. It has version 1 where that says all of it."""
     owned = sum(entry.owner is not None for entry in entries)
     unique = ttlv.boolean(UNIQUE_NAMES, rules.unique_names)
-    if rules.allow_lines or owned:
+    if rules.allow_lines or rules.tolerance or owned:
         header = ttlv.structure(HEADER, ttlv.integer(VERSION, 2), unique, ttlv.enumeration(UNJUDGED, REFUSED),
-                                ttlv.integer(TOLERANCE, 0), ttlv.enumeration(VISIBILITY, EVERYONE))
+                                ttlv.integer(TOLERANCE, rules.tolerance), ttlv.enumeration(VISIBILITY, EVERYONE))
     else:
         header = ttlv.structure(HEADER, ttlv.integer(VERSION, 1), unique)
     records = [
@@ -58,6 +58,7 @@ def run(rules: Rules, entries: list[Entry], out: str, force: bool) -> str:
     told = [f"{len(rules.rows)} rows", f"{len(entries)} entries"]
     told += [f"{len(rules.allow_lines)} allow lines"] if rules.allow_lines else []
     told += [f"{owned} owners"] if owned else []
+    told += [f"a tolerance of {rules.tolerance} s"] if rules.tolerance else []
     return ", ".join(told)
 
 

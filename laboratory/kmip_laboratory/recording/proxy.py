@@ -5,10 +5,12 @@ from __future__ import annotations
 import asyncio
 import contextlib
 import errno
+import os
 import resource
 import signal
 import socket
 import ssl
+import traceback
 from typing import Optional
 
 from .. import peer, tls
@@ -42,6 +44,8 @@ class Proxy:
         taking = asyncio.ensure_future(self._take_connections(listener))
         stopped = asyncio.ensure_future(self._stop.wait())
         await asyncio.wait({taking, stopped}, return_when=asyncio.FIRST_COMPLETED)
+        if taking.done():
+            self._failure = self._failure or taking.exception()
         taking.cancel()
         listener.close()
         await self._end_connections()
@@ -66,18 +70,24 @@ class Proxy:
             task.add_done_callback(self._connections.pop)
 
     async def _watch(self, connection: Connection) -> None:
-        """Serves one connection. What goes wrong on it ends it alone; what hinders marks ends the whole work."""
+        """Serves one connection. What goes wrong on it ends it alone, whatever that is; what hinders marks ends the
+        whole work."""
         try:
             await connection.serve()
-        except ConnectionTrouble as trouble:
-            left = ""
-            if connection.open_call:
-                left = f"; call {connection.open_call} stays open"
-                self._way.recording.give_up(connection.open_call)
-            say(f"{connection.name}: {trouble}{left}")
-        except Exception as failure:  # pylint: disable=broad-exception-caught
+        except Trouble as failure:
             self._failure = self._failure or failure
             self.stop()
+        except ConnectionTrouble as trouble:
+            self._tell_end(connection, str(trouble))
+        except Exception as fault:  # pylint: disable=broad-exception-caught
+            self._tell_end(connection, f"the connection ended by the recorder's own fault, {told(fault)}")
+
+    def _tell_end(self, connection: Connection, why: str) -> None:
+        left = ""
+        if connection.open_call:
+            left = f"; call {connection.open_call} stays open"
+            self._way.recording.give_up(connection.open_call)
+        say(f"{connection.name}: {why}{left}")
 
     async def _end_connections(self) -> None:
         for task, connection in list(self._connections.items()):
@@ -88,6 +98,12 @@ class Proxy:
         for task in left:
             task.cancel()
         await asyncio.gather(*left, return_exceptions=True)
+
+
+def told(fault: Exception) -> str:
+    """A fault of our own: what it is, and where it came about."""
+    where = traceback.extract_tb(fault.__traceback__)[-1]
+    return f"{type(fault).__name__}: {fault} ({os.path.basename(where.filename)} line {where.lineno})"
 
 
 async def reach(server: Address, context: ssl.SSLContext) -> None:

@@ -1,7 +1,8 @@
-"""Rules of a server: which reasons have a cause, whether names are unique, and what a state allows.
+"""Rules of a server: which reasons have a cause, whether names are unique, what a state allows, and how far moments may
+be from Time Stamps.
 
 A file of rules says one a line, as the words of `declare` do, without their dashes: `unique-names`,
-`reason 0x37=NotFound`, `allow Destroy,Active=not`. What stands behind `#` is for whoever reads it.
+`reason 0x37=NotFound`, `allow Destroy,Active=not`, `tolerance 1`. What stands behind `#` is for whoever reads it.
 """
 
 from __future__ import annotations
@@ -54,6 +55,7 @@ class Allow(IntEnum):
 
 
 NEVER = "not"
+LONGEST_TOLERANCE = 86_400
 GONE = (State.Destroyed, State.DestroyedCompromised)
 # The cells of the auditor's table that no rule frees.
 FIXED = {
@@ -87,6 +89,8 @@ class Rules(NamedTuple):
     unique_names: bool
     rows: list[Row]
     allow_lines: list[AllowLine]
+    # How many seconds a moment may be away from the stamp of its answer.
+    tolerance: int = 0
 
 
 def read_row(words: str) -> Row:
@@ -119,6 +123,14 @@ def read_allow_line(words: str) -> AllowLine:
     return line
 
 
+def read_tolerance(words: str) -> int:
+    """The seconds that a moment may be away from its stamp."""
+    seconds = int(words) if words.isascii() and words.isdecimal() and len(words) < 6 else -1
+    if not 0 <= seconds <= LONGEST_TOLERANCE:
+        raise argparse.ArgumentTypeError(f"{words!r} is no number of seconds from 0 to {LONGEST_TOLERANCE}")
+    return seconds
+
+
 def read_file(path: str) -> Rules:
     """The rules that the lines of a file say."""
     try:
@@ -127,7 +139,7 @@ def read_file(path: str) -> Rules:
         raise Trouble(f"{path} can't be read: {error.strerror}; name a file of rules") from None
     except UnicodeDecodeError:
         raise Trouble(f"{path} is no text in UTF-8: name a file of rules") from None
-    unique_names, rows, allow_lines = False, [], []
+    unique_names, rows, allow_lines, tolerances = False, [], [], []
     for place, line in enumerate(lines, 1):
         word, _, said = line.partition("#")[0].strip().partition(" ")
         try:
@@ -137,16 +149,19 @@ def read_file(path: str) -> Rules:
                 rows.append(read_row(said.strip()))
             elif word == "allow":
                 allow_lines.append(read_allow_line(said.strip()))
+            elif word == "tolerance":
+                tolerances.append(read_tolerance(said.strip()))
             elif word:
                 raise argparse.ArgumentTypeError(f"{line.strip()!r} is no rule: a line says unique-names, reason "
-                                                 "NUMBER=CAUSE or allow OPERATION,STATE=WORD")
+                                                 "NUMBER=CAUSE, allow OPERATION,STATE=WORD or tolerance SECONDS")
         except argparse.ArgumentTypeError as trouble:
             raise Trouble(f"{path}, line {place}: {trouble}") from None
-    return Rules(unique_names, rows, allow_lines)
+    return Rules(unique_names, rows, allow_lines, max(tolerances, default=0))
 
 
 def together(files: list[str], said: Rules) -> Rules:
-    """The rules of files and of words. A cell has one word: two that differ are refused."""
+    """The rules of files and of words. A cell has one word: two that differ are refused. The longest tolerance
+    holds."""
     every = [*map(read_file, files), said]
     lines = [line for rules in every for line in rules.allow_lines]
     cells = {(line.act, line.state): line for line in lines}
@@ -154,4 +169,4 @@ def together(files: list[str], said: Rules) -> Rules:
         if cells[line.act, line.state] != line:
             raise Trouble(f"{line.act.name} in state {line.state.name} has two words: leave one of them away")
     return Rules(any(rules.unique_names for rules in every), [row for rules in every for row in rules.rows],
-                 list(cells.values()))
+                 list(cells.values()), max(rules.tolerance for rules in every))

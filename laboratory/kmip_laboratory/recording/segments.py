@@ -91,10 +91,12 @@ class Gate:
         if not self._is_wanted():
             self._quiet.set()
 
+    def is_shut(self) -> bool:
+        """Whether a request has to wait for `room`."""
+        return self._is_wanted()
+
     async def room(self) -> None:
         """Comes back when a request may be marked."""
-        if not self._is_wanted():
-            return
         now = asyncio.get_running_loop().time()
         if self._until is None:
             self._until = now + self._seconds

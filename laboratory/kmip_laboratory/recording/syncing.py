@@ -7,12 +7,13 @@ for the next; two of them may be under way at once. So the more connections ther
 from __future__ import annotations
 
 import asyncio
-from concurrent.futures import ThreadPoolExecutor
+import contextlib
+import threading
 from enum import Enum
-from typing import Callable, Iterable, Optional
+from queue import SimpleQueue
+from typing import Callable, Iterable, NamedTuple, Optional
 
 from ..appending import AppendedFile
-from ..trouble import Trouble
 
 # How many calls of the disk are under way at once.
 MOST_AT_ONCE = 2
@@ -27,6 +28,14 @@ class Sync(Enum):
     NONE = "none"
 
 
+class _Turn(NamedTuple):
+    """A call of the disk: of which files, how long these were, and who waits for it in which loop."""
+
+    files: Lengths
+    served: list[asyncio.Future[None]]
+    loop: asyncio.AbstractEventLoop
+
+
 class Syncing:
     """Brings the files of a recording to the disk, and sees that they are there as they were written."""
 
@@ -38,8 +47,11 @@ class Syncing:
         self._settled = settled
         self._waiting: list[asyncio.Future[None]] = []
         self._is_begin_due = False
-        self._under_way: dict[asyncio.Future[None], Lengths] = {}
-        self._pool = ThreadPoolExecutor(MOST_AT_ONCE)
+        self._under_way: list[_Turn] = []
+        self._resting: Optional[asyncio.Future[None]] = None
+        # What the threads do, which begin with the first turn.
+        self._asked: SimpleQueue[_Turn] = SimpleQueue()
+        self._threads: list[threading.Thread] = []
 
     async def settle(self) -> None:
         """Comes back when all that was written up to now is on the disk; refused where it can't be, or is gone."""
@@ -54,7 +66,8 @@ class Syncing:
     async def rest(self) -> None:
         """Comes back when no call of the disk is under way."""
         if self._under_way:
-            await asyncio.wait(set(self._under_way))
+            self._resting = asyncio.get_running_loop().create_future()
+            await self._resting
 
     def settle_at_once(self, syncs: bool = True) -> None:
         """The same, while nothing else is done; without the disk where it `syncs` not."""
@@ -71,7 +84,7 @@ class Syncing:
         for file in files:
             file.see_whole()
         self._settled([file for file, length in files.items() if file.length == length and not any(
-            file in others for others in self._under_way.values())])
+            file in others.files for others in self._under_way)])
 
     def _begin_soon(self) -> None:
         """Begins to serve those that wait, once all have come that come in this turn of the loop."""
@@ -80,25 +93,40 @@ class Syncing:
             asyncio.get_running_loop().call_soon(self._begin)
 
     def _begin(self) -> None:
-        served, self._waiting = self._waiting, []
-        files = self._lengths()
+        turn = _Turn(self._lengths(), self._waiting, asyncio.get_running_loop())
+        self._waiting = []
         self._is_begin_due = False
-        done = asyncio.get_running_loop().run_in_executor(self._pool, sync_all, files)
-        self._under_way[done] = files
-        done.add_done_callback(lambda done: self._end(done, served))
+        self._under_way.append(turn)
+        if len(self._threads) < len(self._under_way):
+            self._threads.append(threading.Thread(target=self._work, daemon=True, name="disk"))
+            self._threads[-1].start()
+        self._asked.put(turn)
 
-    def _end(self, done: asyncio.Future[None], served: list[asyncio.Future[None]]) -> None:
-        files = self._under_way.pop(done)
-        trouble: Optional[BaseException] = done.exception()
+    def _work(self) -> None:
+        """A thread: one turn after the other."""
+        while True:
+            turn, trouble = self._asked.get(), None
+            try:
+                sync_all(turn.files)
+            except BaseException as told:  # pylint: disable=broad-exception-caught
+                trouble = told
+            with contextlib.suppress(RuntimeError):
+                # Where the loop is closed nobody waits any more.
+                turn.loop.call_soon_threadsafe(self._end, turn, trouble)
+
+    def _end(self, turn: _Turn, trouble: Optional[BaseException]) -> None:
+        self._under_way.remove(turn)
         try:
             if trouble is None:
-                self._see(files)
-        except Trouble as told:
+                self._see(turn.files)
+        except Exception as told:  # pylint: disable=broad-exception-caught
             trouble = told
-        for each in served:
+        for each in turn.served:
             if not each.done():
                 _set(each, trouble)
         self._begin_soon()
+        if self._resting and not self._under_way and not self._is_begin_due and not self._resting.done():
+            self._resting.set_result(None)
 
 
 def _set(waiting: asyncio.Future[None], trouble: Optional[BaseException]) -> None:

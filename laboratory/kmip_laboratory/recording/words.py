@@ -10,6 +10,7 @@ from typing import Optional
 
 from .. import tls
 from ..address import read_address
+from ..auditing import words as auditing
 from ..blinding import words as blinding
 from ..files import OUT_HINT, see_that_free
 from ..front import Parser, run_or_help
@@ -46,6 +47,7 @@ def _parser() -> Parser:
     _add_keylog(words.add_parser("keylog", help="make a transcript from a packet capture and a TLS key log"))
     _add_declare(words.add_parser("declare", help="declare which objects the server holds"))
     _add_order(words.add_parser("order", help="guess a witness from a transcript"))
+    auditing.add(words)
     passes.add(words)
     blinding.add(words)
     shrinking.add(words)
@@ -123,6 +125,8 @@ def _add_declare(word: argparse.ArgumentParser) -> None:
     word.add_argument("--allow", type=rules.read_allow_line, action="append", default=[],
                       metavar="OPERATION,STATE=WORD", help="the server's own word for an operation in a state: must, "
                       "may or not, as Destroy,Active=not")
+    word.add_argument("--tolerance", type=rules.read_tolerance, default=0, metavar="SECONDS", help="how far from the "
+                      "Time Stamp of its answer a server may have done what it answers (0)")
     word.add_argument("--version", type=read_version, metavar="MAJOR.MINOR", default=JUDGED,
                       help="ask in this version, from 1.0 on (2.1)")
     word.add_argument("--out", required=True, metavar="DECLARATION", help="a new file for it")
@@ -213,7 +217,7 @@ def _declare(words: argparse.Namespace) -> None:
     see_apart([words.out], [words.server_cert, words.server_key, words.server_ca, *words.rules,
                             *(path for each in shown for path in (each.certificate, each.key))])
     see_that_free(words.out, words.force, OUT_HINT)
-    said = rules.together(words.rules, rules.Rules(words.unique_names, words.reason, words.allow))
+    said = rules.together(words.rules, rules.Rules(words.unique_names, words.reason, words.allow, words.tolerance))
     entries: list[declaration.Entry] = []
     if words.server:
         if words.version != JUDGED:

@@ -7,7 +7,7 @@ import os
 from concurrent.futures import ProcessPoolExecutor
 from datetime import datetime
 from functools import partial
-from typing import Optional
+from typing import NamedTuple, Optional
 
 from .. import fresh
 from ..auditor import Auditor
@@ -27,10 +27,25 @@ def main(arguments: Optional[list[str]] = None) -> int:
     return run(_parser(), arguments)
 
 
-def make_page(out: str, folder: str, asking: Asking) -> None:
-    """Makes the page of one recording, as a new file."""
-    made = page.page([judge(folder, asking)], moment_of_making(os.environ.get("SOURCE_DATE_EPOCH")))
-    fresh.write_all([(out, made.encode("utf-8"))])
+class Outputs(NamedTuple):
+    """What is made of one recording: the page, a test case for JUnit where its file is named, and the text where it
+    is asked for."""
+
+    page: str
+    junit: Optional[str] = None
+    has_text: bool = False
+
+
+def make_reports(folder: str, asking: Asking, outputs: Outputs) -> None:
+    """Makes the page of one recording and what else is asked for, as new files, and prints the text."""
+    recordings = [judge(folder, asking)]
+    made = moment_of_making(os.environ.get("SOURCE_DATE_EPOCH"))
+    files = [(outputs.page, page.page(recordings, made).encode("utf-8"))]
+    if outputs.junit:
+        files.append((outputs.junit, junit.told(recordings).encode("utf-8")))
+    fresh.write_all(files)
+    if outputs.has_text:
+        print(text.told(recordings, made))
 
 
 def _report(words: argparse.Namespace) -> int:
