@@ -2,19 +2,21 @@
 from __future__ import annotations
 
 from dataclasses import dataclass, field
-from typing import Callable, Dict, Iterator, List, Optional, Tuple
+from typing import Callable, Dict, Iterator, List, Optional, Set, Tuple
 
 from attributes import read_attributes
 from objects import (ACTIVATION, ALGORITHM, COMPROMISE, DEACTIVATION, DESTROY, INITIAL, LENGTH, MASK, MAY, MUST, NAME, NOT, ROWS,
                      SECRET_DATA, SYMMETRIC_KEY, DATES, Attributes, Inventory, Object, Secret, admits)
 from seals import Misplaced, Seals, is_sealed_header
-from ttlv import BOOLEAN, BYTES, ENUMERATION, FAULTS, INTEGER, STRUCTURE, TEXT, Item, TtlvFault, decode, head_at
+from ttlv import BOOLEAN, BYTES, DATE, ENUMERATION, FAULTS, INTEGER, STRUCTURE, TEXT, Item, TtlvFault, decode, head_at
 
 KINDS = ("", "Ttlv", "Header", "Number", "EndWithoutBegin", "SecondEnd", "", "Identifier", "Entry", "Calls", "Device", "Memory",
          "Seal", "NoClose", "Order")
 NO_CLOSE = 13
 TTLV, HEADER, NUMBER, END_WITHOUT_BEGIN, SECOND_END, _, IDENTIFIER, ENTRY, CALLS = range(1, 10)
-MOST_CALLS = 100000
+MOST_CALLS, MOST_TOLERANCE = 100000, 86400
+REFUSED, SET_ASIDE, UNKNOWN = 1, 2, 3
+EVERYONE, MAY_HIDE, MUST_HIDE = 1, 2, 3
 NOT_FOUND, WRONG_STATE, TAKEN_NAME = 1, 2, 3
 LISTED = (NAME, ALGORITHM, LENGTH, MASK, INITIAL, ACTIVATION, DEACTIVATION, DESTROY, COMPROMISE)
 
@@ -29,10 +31,11 @@ class Malformed(Exception):
 
 @dataclass
 class Call:
-    """A call: its number, where its marks stand, and its messages; of an open call the last two are None."""
+    """A call: its number, where its marks stand, its client, and its messages; of an open call the last two are None."""
 
     number: int
     begin: int
+    client: str
     request: bytes
     end: Optional[int] = None
     response: Optional[bytes] = None
@@ -40,22 +43,37 @@ class Call:
 
 @dataclass
 class Declaration:
-    """What the server held at the start, and its rules: unique names, rows of a reason and a cause, and words for cells of the table."""
+    """What the server held at the start, and its rules: unique names, what becomes of what isn't judged, how far moments may be from stamps,
+    who sees whose objects, rows of a reason and a cause, words for cells of the table, and what the server itself gives at birth."""
 
     unique_names: bool
+    unjudged: int = REFUSED
+    tolerance: int = 0
+    visibility: int = EVERYONE
     rows: List[Tuple[int, int]] = field(default_factory=list)
-    entries: Inventory = field(default_factory=dict)
     lines: Dict[Tuple[str, int], str] = field(default_factory=dict)
+    own: List[int] = field(default_factory=list)
+    entries: Inventory = field(default_factory=dict)
+    aside: Set[str] = field(default_factory=set)
+
+    @property
+    def sets_aside(self) -> bool:
+        """Whether what isn't judged is set aside, and ends nothing."""
+        return self.unjudged != REFUSED
 
 
 @dataclass
 class Turn:
-    """A turn of a witness: its call, the answer of an open call, the order of its places, and fills by item."""
+    """A turn of a witness: its call, the answer of an open call, the order of its places, its moment, fills and births by item, and which items
+    are set aside, or all of the call: 0."""
 
     call: int
     answer: Optional[bytes]
     places: List[int]
+    moment: Optional[int]
     fills: List[Tuple[int, Item]]
+    births: List[Tuple[int, Item]]
+    asides: List[int]
 
 
 def has_form(item: Item, tag: int, *wanted: Tuple[int, int, str]) -> bool:
@@ -126,7 +144,7 @@ def read_transcript(data: bytes) -> Tuple[List[Call], Optional[Seals]]:
         if begins and len(calls) == MOST_CALLS:
             raise Malformed(CALLS, at)
         if begins:
-            calls[call] = Call(call, place, message)
+            calls[call] = Call(call, place, str(item.children[1].value), message)
         elif call not in calls or calls[call].end is not None:
             raise Malformed(END_WITHOUT_BEGIN if call not in calls else SECOND_END, at)
         else:
@@ -151,23 +169,42 @@ def read_entry(item: Item, version: int) -> Optional[Tuple[str, Object]]:
         return None
     dates = {tag: at for tag, at in said.single.items() if tag in DATES}
     given = Attributes(said.names, {tag: it for tag, it in said.single.items() if tag not in DATES})
-    return str(item.children[0].value), Object(kind, given, dates, Secret(key))
+    owner = item.first(0x54003C)
+    return str(item.children[0].value), Object(kind, given, dates, Secret(key), identity_of(str(owner.value)) if owner else None)
 
 
 ACTS = ("", "Get", "Get Attributes", "Activate", "Revoke 2, 3", "Revoke", "Destroy")
 WORDS = ("", MUST, MAY, NOT)
+OWN = (NAME, ALGORITHM, LENGTH, MASK, ACTIVATION, DEACTIVATION)
+ROW, ALLOW_LINE, OWN_LINE, ASIDE_ENTRY = 0x540032, 0x540038, 0x54003B, 0x54003D
+
+
+def identity_of(client: str) -> str:
+    """Who a client is: its text up to the first blank or slash."""
+    return client.replace("/", " ").split(" ")[0]
 
 
 def is_declaration(item: Item) -> bool:
-    """Whether an item is the header of a declaration: of version 2 with nothing set aside, no tolerance, and objects that everyone sees."""
+    """Whether an item is the header of a declaration, whose numbers are those of their tables."""
     front = ((0x540002, INTEGER, ""), (0x540031, BOOLEAN, ""))
     more = ((0x540035, ENUMERATION, ""), (0x540036, INTEGER, ""), (0x540037, ENUMERATION, ""))
-    numbers = [number(it) for it in item.children[:1] + item.children[2:]]
-    return has_form(item, 0x540030, *front) and numbers == [1] or has_form(item, 0x540030, *front, *more) and numbers == [2, 1, 0, 1]
+    version, *rest = [number(it) for it in item.children[:1] + item.children[2:]] or [0]
+    if version == 1:
+        return has_form(item, 0x540030, *front)
+    return version == 2 and has_form(item, 0x540030, *front, *more) and rest[0] in (1, 2, 3) and 0 <= rest[1] <= MOST_TOLERANCE and \
+        rest[2] in (1, 2, 3)
 
 
-def read_line(item: Item, said: Declaration) -> bool:
+def take_row(item: Item, said: Declaration) -> bool:
+    """Notes a row of the cause table; whether it is one."""
+    said.rows.append((number(item.children[0]), number(item.children[-1])))
+    return has_form(item, ROW, (0x42007E, ENUMERATION, ""), (0x540033, ENUMERATION, "")) and said.rows[-1][1] in (NOT_FOUND, WRONG_STATE, TAKEN_NAME)
+
+
+def take_allow_line(item: Item, said: Declaration) -> bool:
     """Notes the word that an allow line has for a cell of the table; whether it may have one."""
+    if not has_form(item, ALLOW_LINE, (0x540039, ENUMERATION, ""), (0x42008D, ENUMERATION, ""), (0x54003A, ENUMERATION, "")):
+        return False
     act, state, word = (number(it) for it in item.children)
     if not (1 <= act <= 6 and 1 <= state <= 6 and 1 <= word <= 3) or ROWS[ACTS[act]][state - 1] == NOT or (ACTS[act], state) in said.lines:
         return False
@@ -175,46 +212,75 @@ def read_line(item: Item, said: Declaration) -> bool:
     return True
 
 
+def take_own_line(item: Item, said: Declaration) -> bool:
+    """Notes an attribute that the server itself may give an object at birth; whether it may be one."""
+    said.own.append(number(item.children[0]) if has_form(item, OWN_LINE, (0x42013B, ENUMERATION, "")) else 0)
+    return said.own[-1] in OWN and said.own[-1] not in said.own[:-1]
+
+
+def take_entry(item: Item, said: Declaration, version: int) -> int:
+    """Notes an entry, or an identifier that is set aside; the fault of it, or 0."""
+    is_aside = said.sets_aside and has_form(item, ASIDE_ENTRY, (0x420094, TEXT, ""))
+    entry = None if is_aside else read_entry(item, version)
+    if not is_aside and entry is None:
+        return ENTRY
+    identifier = entry[0] if entry else str(item.children[0].value)
+    if identifier in said.entries or identifier in said.aside:
+        return IDENTIFIER
+    if entry:
+        said.entries[identifier] = entry[1]
+    else:
+        said.aside.add(identifier)
+    return 0
+
+
 def read_declaration(data: bytes) -> Declaration:
-    """What a declaration says."""
-    said, version = Declaration(False), 0
+    """What a declaration says: rows, then allow lines, then own lines, then entries."""
+    said, version, stage = Declaration(False), 0, 0
+    of_lines = (ROW, ALLOW_LINE, OWN_LINE)
     for place, (at, item) in enumerate(records(data, is_declaration)):
         if place == 0:
             version, said.unique_names = number(item.children[0]), bool(item.children[1].value)
-        elif has_form(item, 0x540032, (0x42007E, ENUMERATION, ""), (0x540033, ENUMERATION, "")):
-            if said.entries or said.lines or number(item.children[1]) not in (NOT_FOUND, WRONG_STATE, TAKEN_NAME):
-                raise Malformed(ENTRY, at)
-            said.rows.append((number(item.children[0]), number(item.children[1])))
-        elif version > 1 and has_form(item, 0x540038, (0x540039, ENUMERATION, ""), (0x42008D, ENUMERATION, ""), (0x54003A, ENUMERATION, "")):
-            if said.entries or not read_line(item, said):
-                raise Malformed(ENTRY, at)
+            said.unjudged, said.tolerance, said.visibility = [number(it) for it in item.children[2:]] or [REFUSED, 0, EVERYONE]
+            continue
+        before, stage = stage, of_lines.index(item.tag) if item.tag in of_lines else len(of_lines)
+        is_early = stage < before or item.tag in of_lines[1:] and version == 1 or not item.children
+        if stage == len(of_lines):
+            fault = take_entry(item, said, version)
         else:
-            entry = read_entry(item, version)
-            if entry is None or entry[0] in said.entries:
-                raise Malformed(ENTRY if entry is None else IDENTIFIER, at)
-            said.entries[entry[0]] = entry[1]
+            fault = 0 if not is_early and (take_row, take_allow_line, take_own_line)[stage](item, said) else ENTRY
+        if fault:
+            raise Malformed(fault, at)
     said.rows = said.rows or [(1, NOT_FOUND)]
     return said
+
+
+def parts_of(turn: Item, tag: int, held: int) -> Optional[List[Tuple[int, Item]]]:
+    """What a turn says of items: of each its place and a Structure; None where one has another form."""
+    items = turn.every(tag)
+    are_formed = all(has_form(it, tag, (0x540043, INTEGER, ""), (held, STRUCTURE, "")) for it in items)
+    return [(number(it.children[0]), it.children[1]) for it in items] if are_formed else None
 
 
 def read_witness(data: bytes) -> List[Turn]:
     """The turns of a witness."""
     turns: List[Turn] = []
     version = 0
-    header = lambda it: has_form(it, 0x540040, (0x540002, INTEGER, "")) and number(it.children[0]) in (1, 2, 3)
+    header = lambda it: has_form(it, 0x540040, (0x540002, INTEGER, "")) and number(it.children[0]) in (1, 2, 3, 4)
+    parts = ((0x540011, INTEGER, "", 1), (0x540044, BYTES, "?", 2), (0x540045, INTEGER, "*", 3), (0x540046, DATE, "?", 4),
+             (0x540042, STRUCTURE, "*", 1), (0x540047, STRUCTURE, "*", 4), (0x540048, INTEGER, "*", 4))
     for place, (at, item) in enumerate(records(data, header)):
         if place == 0:
             version = number(item.children[0])
             continue
-        wanted = [(0x540011, INTEGER, "")] + [(0x540044, BYTES, "?")] * (version > 1) + [(0x540045, INTEGER, "*")] * (version > 2)
-        fills = item.every(0x540042)
-        are_fills = all(has_form(it, 0x540042, (0x540043, INTEGER, ""), (0x42007C, STRUCTURE, "")) for it in fills)
-        if not has_form(item, 0x540041, *wanted, (0x540042, STRUCTURE, "*")) or not are_fills:
+        fills, births = parts_of(item, 0x540042, 0x42007C), parts_of(item, 0x540047, 0x420125)
+        is_turn = has_form(item, 0x540041, *((tag, kind, how) for tag, kind, how, since in parts if since <= version))
+        if not is_turn or fills is None or births is None:
             raise Malformed(ENTRY, at)
         if number(item.children[0]) < 1:
             raise Malformed(NUMBER, at)
-        answer = item.first(0x540044)
-        places = [number(it) for it in item.every(0x540045)]
-        turns.append(Turn(number(item.children[0]), data_of(answer) if answer else None, places,
-                          [(number(it.children[0]), it.children[1]) for it in fills]))
+        answer, moment = item.first(0x540044), item.first(0x540046)
+        places, asides = ([number(it) for it in item.every(tag)] for tag in (0x540045, 0x540048))
+        turns.append(Turn(number(item.children[0]), data_of(answer) if answer else None, places, number(moment) if moment else None, fills, births,
+                          asides))
     return turns

@@ -1,6 +1,6 @@
-"""Requests and responses, as items say them, and when they are outside (docs/FORMATS.md, Messages and Outside).
+"""Requests and responses, as items say them, and what of them isn't judged (docs/FORMATS.md, Messages and Outside).
 
-A reader answers what it could read, and notes each kind of *outside* that holds. The lowest item, and in it the lowest kind, is told.
+A reader answers what it could read, and notes at each item each kind of *outside* that holds.
 """
 from __future__ import annotations
 
@@ -19,7 +19,7 @@ CREATE, REGISTER, LOCATE, GET, GET_ATTRIBUTES, ACTIVATE, REVOKE, DESTROY, QUERY,
 READ = (CREATE, REGISTER, LOCATE, GET, GET_ATTRIBUTES, ACTIVATE, REVOKE, DESTROY)
 ON_AN_OBJECT = (GET, GET_ATTRIBUTES, ACTIVATE, REVOKE, DESTROY)
 MAY_BE_BARE = (LOCATE, GET_ATTRIBUTES, ACTIVATE, REVOKE, DESTROY)
-SUCCESS, FAILED, IS_PENDING, UNDONE = range(4)
+SUCCESS, FAILED, IS_PENDING, UNDONE, NO_STATUS = range(5)
 CONTINUE, STOP, UNDO = 1, 2, 3
 REFERENCE, ATTRIBUTES, BATCH_ITEM, IDENTIFIER, HEADER_VERSION = 0x42013B, 0x420125, 0x42000F, 0x420094, 0x420069
 OBJECTS = {0x42008F: SYMMETRIC_KEY, 0x420085: SECRET_DATA}
@@ -74,21 +74,30 @@ class Answer:
     payload: Optional[Payload]
 
 
+Kinds = Set[int]
+
+
 @dataclass
 class Request:
-    """A request: its Batch Error Continuation Option, whether its items have an order, and its items."""
+    """A request: its Batch Error Continuation Option, whether its items have an order, whether it allows an answer that is pending, its items, as
+    they were read and as they stand, and the kinds of *outside* at each, ahead of them those at the message itself."""
 
     option: int
     is_unordered: bool
+    allows_pending: bool
     items: List[Ask]
+    stand: List[Item]
+    kinds: List[Kinds]
 
 
 @dataclass
 class Response:
-    """A response: its Time Stamp, and its items."""
+    """A response: its Time Stamp, its items, as they were read and as they stand, and kinds as of a request."""
 
     stamp: int
     items: List[Answer]
+    stand: List[Item]
+    kinds: List[Kinds]
 
     @property
     def refuses_message(self) -> bool:
@@ -101,10 +110,6 @@ class Outside(Exception):
 
     def __init__(self, item: int, kind: int) -> None:
         super().__init__(f"item {item} kind {kind} {KINDS[kind]}")
-        self.item, self.kind = item, kind
-
-
-Kinds = Set[int]
 
 
 def number_at(item: Item, tag: int, kind: int, kinds: Kinds, wanted: bool = False) -> Optional[int]:
@@ -125,10 +130,16 @@ def structure_at(item: Item, kinds: Kinds, tag: int, wanted: bool) -> Optional[I
     return found
 
 
-def identifier_at(item: Item, kinds: Kinds, wanted: bool = False) -> Optional[str]:
+def names_none(payload: Item, is_lenient: bool) -> bool:
+    """Whether a Request Payload names no object: by no Unique Identifier, or by the Enumeration that stands for the placeholder."""
+    found = payload.first(IDENTIFIER)
+    return found is None or is_lenient and found.type == ENUMERATION and found.value == 1
+
+
+def identifier_at(item: Item, kinds: Kinds, wanted: bool = False, is_lenient: bool = False) -> Optional[str]:
     """The Unique Identifier of a payload."""
     found = item.first(IDENTIFIER)
-    if found is None:
+    if found is None or names_none(item, is_lenient):
         kinds |= {MISSING} if wanted else set()
     elif found.type != TEXT:
         kinds.add(IDENTIFIER_FORM)
@@ -223,10 +234,10 @@ def read_get_attributes(payload: Item, ask: Ask) -> None:
     ask.references = [int(it.value) for it in rest if it.type == ENUMERATION and isinstance(it.value, int)] if rest else None
 
 
-def read_asked(payload: Item, ask: Ask, kinds: Kinds) -> None:
+def read_asked(payload: Item, ask: Ask, kinds: Kinds, is_lenient: bool) -> None:
     """What a Request Payload asks."""
     if ask.operation in ON_AN_OBJECT:
-        ask.identifier = identifier_at(payload, kinds)
+        ask.identifier = identifier_at(payload, kinds, False, is_lenient)
     if ask.operation == CREATE:
         read_create(payload, ask, kinds)
     elif ask.operation == REGISTER:
@@ -269,14 +280,14 @@ def batch_id_of(item: Item) -> Optional[bytes]:
 
 
 def opened(data: bytes, tag: int, header_tag: int) -> Tuple[Item, Item, Kinds]:
-    """The message that bytes are, its header, and the kinds that hold at item 0 so far."""
+    """The message that bytes are, its header, and the kinds that hold at the message itself so far; of bytes that are none empty ones."""
     try:
         message, taken = decode(data)
     except TtlvFault:
-        raise Outside(0, NOT_A_MESSAGE) from None
+        message, taken = Item(0, STRUCTURE, []), 0
     header = message.first(header_tag)
     if taken != len(data) or message.tag != tag or message.type != STRUCTURE or header is None or header.type != STRUCTURE:
-        raise Outside(0, NOT_A_MESSAGE)
+        return Item(0, STRUCTURE, []), Item(0, STRUCTURE, []), {NOT_A_MESSAGE}
     kinds: Kinds = set()
     version = header.first(HEADER_VERSION)
     numbers = [number_at(version, it, INTEGER, set(), True) if version is not None else None for it in (0x42006A, 0x42006B)]
@@ -293,12 +304,18 @@ def tell(each: List[Kinds]) -> None:
             raise Outside(item, min(kinds))
 
 
-def read_request(data: bytes) -> Request:
-    """The request that bytes say, or Outside."""
+def payload_of(item: Item, tag: int) -> Item:
+    """The payload of a Batch Item, which is empty where none is there."""
+    found = item.first(tag)
+    return found if found is not None and found.type == STRUCTURE else Item(0, STRUCTURE, [])
+
+
+def read_request(data: bytes, is_lenient: bool = False) -> Request:
+    """The request that bytes say; where it `is_lenient` the Enumeration that stands for the placeholder is read as no identifier."""
     message, header, kinds = opened(data, 0x420078, 0x420077)
     option = number_at(header, 0x42000E, ENUMERATION, kinds)
     kinds |= {MISSING} if option is not None and option not in (CONTINUE, STOP, UNDO) else set()
-    ordered = number_at(header, 0x420010, BOOLEAN, kinds)
+    ordered, pending = number_at(header, 0x420010, BOOLEAN, kinds), header.first(0x420007)
     items = message.every(BATCH_ITEM)
     is_unordered = ordered == 0 and len(items) > 1
     each, asks = [kinds], []
@@ -308,13 +325,13 @@ def read_request(data: bytes) -> Request:
         ask = Ask(operation or 0, batch_id_of(item))
         if operation in READ:
             payload = structure_at(item, held, 0x420079, False) or Item(0, STRUCTURE, [])
-            read_asked(payload, ask, held)
-            if is_unordered and operation in ON_AN_OBJECT and payload.first(IDENTIFIER) is None:
+            read_asked(payload, ask, held, is_lenient)
+            if is_unordered and operation in ON_AN_OBJECT and names_none(payload, is_lenient):
                 held.add(UNORDERED)
         each.append(held)
         asks.append(ask)
-    tell(each)
-    return Request(option or STOP, is_unordered, asks)
+    allows_pending = pending is not None and (pending.type, pending.value) in ((BOOLEAN, True), (ENUMERATION, 1), (ENUMERATION, 2))
+    return Request(option or STOP, is_unordered, allows_pending, asks, items, each)
 
 
 def read_answer(item: Item, ask: Optional[Ask], kinds: Kinds) -> Answer:
@@ -323,7 +340,8 @@ def read_answer(item: Item, ask: Optional[Ask], kinds: Kinds) -> Answer:
     status = number_at(item, 0x42007F, ENUMERATION, kinds, True)
     kinds |= {MISSING} if status is not None and status > UNDONE else set()
     kinds |= {PENDING} if status == IS_PENDING else set()
-    answer = Answer(operation, batch_id_of(item), status or 0, number_at(item, 0x42007E, ENUMERATION, kinds), None)
+    status = NO_STATUS if status is None or status > UNDONE else status
+    answer = Answer(operation, batch_id_of(item), status, number_at(item, 0x42007E, ENUMERATION, kinds), None)
     is_own = ask is not None and (item.first(0x42005C) is None or operation == ask.operation)
     if ask is None or not is_own or status not in (SUCCESS, UNDONE):
         return answer
@@ -340,13 +358,13 @@ def read_answer(item: Item, ask: Optional[Ask], kinds: Kinds) -> Answer:
 
 
 def read_response(data: bytes, request: Request) -> Response:
-    """The response to a request that bytes say, or Outside."""
+    """The response to a request that bytes say."""
     message, header, kinds = opened(data, 0x42007B, 0x42007A)
     stamp = number_at(header, 0x420092, DATE, kinds, True)
     each, answers = [kinds], []
-    for place, item in enumerate(message.every(BATCH_ITEM)):
+    items = message.every(BATCH_ITEM)
+    for place, item in enumerate(items):
         held: Kinds = set()
         answers.append(read_answer(item, request.items[place] if place < len(request.items) else None, held))
         each.append(held)
-    tell(each)
-    return Response(stamp or 0, answers)
+    return Response(stamp or 0, answers, items, each)

@@ -1,7 +1,7 @@
 """Objects, their attributes, and their states (docs/PROFILE.md, Objects, States, Operations)."""
 from __future__ import annotations
 
-from dataclasses import dataclass, field
+from dataclasses import dataclass, field, replace
 from typing import Dict, FrozenSet, Optional, Tuple
 
 SYMMETRIC_KEY, SECRET_DATA, AES = 2, 7, 3
@@ -21,6 +21,10 @@ class Attributes:
     def get(self, tag: int) -> Optional[int]:
         """The value of a single attribute, if it is there."""
         return self.single.get(tag)
+
+    def completed(self, more: Attributes) -> Attributes:
+        """The same with others: single values stand in place of those that are there, names are added."""
+        return Attributes(self.names | more.names, {**self.single, **more.single})
 
 
 # Tags of single judged attributes.
@@ -56,12 +60,13 @@ class Secret:
 
 @dataclass(frozen=True)
 class Object:
-    """An object: its kind, what its client gave, its dates, and its bytes."""
+    """An object: its kind, what its client gave, its dates, its bytes, and whose it is, where it is somebody's."""
 
     kind: int
     given: Attributes
     dates: Dict[int, int]
     secret: Secret
+    owner: Optional[str] = None
 
     @property
     def is_destroyed(self) -> bool:
@@ -85,17 +90,17 @@ class Object:
 
     def dated(self, now: int, *tags: int) -> Object:
         """The same object with these dates set to a moment."""
-        return Object(self.kind, self.given, {**self.dates, **dict.fromkeys(tags, now)}, self.secret)
+        return replace(self, dates={**self.dates, **dict.fromkeys(tags, now)})
 
 
 Inventory = Dict[str, Object]
 
 
-def born(kind: int, given: Attributes, now: int, data: Optional[bytes]) -> Object:
-    """The object that a Create or Register adds."""
+def born(kind: int, given: Attributes, now: int, data: Optional[bytes], owner: str) -> Object:
+    """The object that a Create or Register adds: the client's who asked for it."""
     dates = {INITIAL: now, **{it: at for it, at in given.single.items() if it in (ACTIVATION, DEACTIVATION)}}
     kept = {it: at for it, at in given.single.items() if it in (ALGORITHM, LENGTH, MASK)}
-    return Object(kind, Attributes(given.names, kept), dates, Secret(data))
+    return Object(kind, Attributes(given.names, kept), dates, Secret(data), owner)
 
 
 def changed(found: Object, row: str, now: int) -> Object:

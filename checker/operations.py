@@ -1,30 +1,34 @@
-"""Why one item of a call is impossible, and what it leaves (docs/PROFILE.md, Why an answer is impossible, Attributes, Locate, Refusals)."""
+"""Why one item of a call is impossible, and what it leaves (docs/PROFILE.md, Why an answer is impossible, Attributes, Locate, Refusals, What is
+set aside, Who sees what)."""
 from __future__ import annotations
 
-from dataclasses import dataclass
 from typing import List, Optional
 
+from aside import Run
 from attributes import TYPES, fit
-from files import NOT_FOUND, TAKEN_NAME, WRONG_STATE, Declaration
+from files import EVERYONE, MUST_HIDE, NOT_FOUND, TAKEN_NAME, WRONG_STATE
 from messages import (ACTIVATE, CREATE, DESTROY, FAILED, GET, GET_ATTRIBUTES, LOCATE, ON_AN_OBJECT, REGISTER, REVOKE, Answer, Ask,
                       Payload)
-from objects import DATES, INITIAL, MUST, NAME, NOT, OBJECT_TYPE, STATE, Inventory, Object, admits, born, changed
+from objects import DATES, INITIAL, MAY, MUST, NAME, NOT, OBJECT_TYPE, STATE, Object, admits, born, changed
 
 NAMES = ("", "EarlierCallLate", "StampRunsBack", "BatchShape", "OperationDiffers", "NoSuchObject", "WrongState", "IdentifierTaken",
          "NameTaken", "BytesDiffer", "LengthImpossible", "AttributeDiffers", "AttributeMissing", "ListedWrongly", "ListedTooFew",
-         "ReasonUnfounded", "EchoDiffers")
+         "ReasonUnfounded", "EchoDiffers", "NotVisible")
 (EARLIER_CALL_LATE, STAMP_RUNS_BACK, BATCH_SHAPE, OPERATION_DIFFERS, NO_SUCH_OBJECT, IN_WRONG_STATE, IDENTIFIER_TAKEN, NAME_TAKEN, BYTES_DIFFER,
- LENGTH_IMPOSSIBLE, ATTRIBUTE_DIFFERS, ATTRIBUTE_MISSING, LISTED_WRONGLY, LISTED_TOO_FEW, REASON_UNFOUNDED, ECHO_DIFFERS) = range(1, 17)
+ LENGTH_IMPOSSIBLE, ATTRIBUTE_DIFFERS, ATTRIBUTE_MISSING, LISTED_WRONGLY, LISTED_TOO_FEW, REASON_UNFOUNDED, ECHO_DIFFERS,
+ NOT_VISIBLE) = range(1, 18)
 
 
-@dataclass
-class Run:
-    """How far a run has come: the inventory, the ID Placeholder of the call, and the moment."""
+def is_hidden(run: Run, found: Object) -> bool:
+    """Whether an object may or has to be hidden from the call."""
+    return run.declared.visibility != EVERYONE and found.owner not in (None, run.client)
 
-    declared: Declaration
-    inventory: Inventory
-    placeholder: Optional[str] = None
-    now: int = 0
+
+def is_about_aside(run: Run, ask: Ask, answer: Answer) -> bool:
+    """Whether an item is possible whatever it answers, since what it is about is set aside or unknown."""
+    meant = run.meant(ask, answer)
+    is_unknown = run.is_unknown and meant is None
+    return run.is_over or ask.operation in ON_AN_OBJECT and (is_unknown or meant is not None and run.is_aside(meant))
 
 
 def row_of(ask: Ask) -> str:
@@ -33,15 +37,18 @@ def row_of(ask: Ask) -> str:
     return rows.get(ask.operation, "Revoke 2, 3" if ask.code in (2, 3) else "Revoke")
 
 
-def is_founded(run: Run, ask: Ask, reason: Optional[int]) -> bool:
+def is_founded(run: Run, ask: Ask, reason: Optional[int], meant: Optional[str]) -> bool:
     """Whether the reason of a failed answer is founded."""
     causes = [cause for number, cause in run.declared.rows if number == reason]
-    meant = ask.identifier if ask.identifier is not None else run.placeholder
     if reason is None or not causes or ask.operation in ON_AN_OBJECT and meant is None:
         return True
     found = run.inventory.get(meant or "") if meant is not None else None
+    if ask.operation in ON_AN_OBJECT and found is not None and is_hidden(run, found):
+        return True
     is_judged = ask.operation in ON_AN_OBJECT and not (ask.operation == GET_ATTRIBUTES and ask.has_references)
-    taken = any(ask.attributes.names & it.given.names for it in run.inventory.values())
+    shows_all = run.declared.visibility != MUST_HIDE
+    others = [it for it in run.inventory.values() if shows_all or not is_hidden(run, it)]
+    taken = run.all_others or bool(run.aside) or any(ask.attributes.names & it.given.names for it in others)
     holds = {
         NOT_FOUND: not is_judged or found is None or found.is_destroyed,
         WRONG_STATE: not is_judged or found is not None and found.allows(row_of(ask), run.now, run.declared.lines) != MUST,
@@ -50,10 +57,15 @@ def is_founded(run: Run, ask: Ask, reason: Optional[int]) -> bool:
     return any(holds[it] for it in causes)
 
 
+def differs_by_id(ask: Ask, answer: Answer) -> bool:
+    """Whether an answer has another Unique Batch Item ID than its request."""
+    return None not in (ask.batch_id, answer.batch_id) and ask.batch_id != answer.batch_id
+
+
 def echoes_wrongly(ask: Ask, answer: Answer, meant: Optional[str]) -> bool:
     """Whether an answer repeats something otherwise than it was asked."""
     said = answer.payload if answer.status != FAILED else None
-    ids = None not in (ask.batch_id, answer.batch_id) and ask.batch_id != answer.batch_id
+    ids = differs_by_id(ask, answer)
     if ask.operation in (CREATE, REGISTER):
         return ids or said is not None and said.kind not in (None, ask.kind)
     return ids or said is not None and ask.operation in ON_AN_OBJECT and said.identifier not in (None, meant)
@@ -63,7 +75,7 @@ def why_of_birth(run: Run, ask: Ask, said: Payload) -> int:
     """Why a Create or Register is impossible; 0 where it isn't."""
     if said.identifier in run.inventory:
         return IDENTIFIER_TAKEN
-    live = [it for it in run.inventory.values() if not it.is_destroyed]
+    live = [it for it in run.inventory.values() if not it.is_destroyed and not is_hidden(run, it)]
     if run.declared.unique_names and any(ask.attributes.names & it.given.names for it in live):
         return NAME_TAKEN
     may_be = admits(ask.kind, ask.attributes, ask.key.data if ask.key is not None else None)
@@ -74,10 +86,12 @@ def why_of_list(run: Run, ask: Ask, listed: List[str]) -> int:
     """Why the list of a Locate is impossible; 0 where it isn't."""
     fits = {it: fit(found, ask.filter, run.now) for it, found in run.inventory.items()}
     maximum = ask.filter.maximum
-    if len(set(listed)) < len(listed) or any(fits.get(it, NOT) == NOT for it in listed) or maximum is not None and len(listed) > maximum:
+    is_wrong = any(fits.get(it, MAY if run.is_aside(it) else NOT) == NOT for it in listed)
+    if len(set(listed)) < len(listed) or is_wrong or maximum is not None and len(listed) > maximum:
         return LISTED_WRONGLY
     is_full = maximum is not None and len(listed) >= maximum
-    return LISTED_TOO_FEW if not is_full and any(it == MUST and one not in listed for one, it in fits.items()) else 0
+    missed = [one for one, it in fits.items() if it == MUST and one not in listed and not is_hidden(run, run.inventory[one])]
+    return LISTED_TOO_FEW if not is_full and missed else 0
 
 
 def why_of_bytes(found: Object, said: Payload) -> int:
@@ -123,15 +137,32 @@ def why_on_object(run: Run, ask: Ask, answer: Answer, meant: Optional[str]) -> i
     return why_of_shown(run, found, ask, answer.payload) if ask.operation == GET_ATTRIBUTES else 0
 
 
+def shows_hidden(run: Run, ask: Ask, said: Payload, meant: Optional[str]) -> bool:
+    """Whether a success is about an object, or lists one, that has to be hidden from the call."""
+    about = said.identifiers if ask.operation == LOCATE else [meant] if ask.operation in ON_AN_OBJECT and meant is not None else []
+    return run.declared.visibility == MUST_HIDE and any(it in run.inventory and is_hidden(run, run.inventory[it]) for it in about)
+
+
+def take_aside(run: Run, ask: Ask, answer: Answer) -> int:
+    """Takes an item that is about what is set aside: its operation is known to be its own."""
+    if differs_by_id(ask, answer):
+        return ECHO_DIFFERS
+    is_unknown = run.is_unknown and run.meant(ask, answer) is None
+    if is_unknown and ask.operation in (ACTIVATE, REVOKE, DESTROY) and answer.status != FAILED:
+        run.set_all_aside()
+    return 0
+
+
 def take(run: Run, ask: Ask, answer: Answer) -> int:
     """Takes one item: the lowest reason why it is impossible, or 0, and then the run has gone on."""
-    meant = ask.identifier if ask.identifier is not None else run.placeholder
-    why = 0
-    said = answer.payload or Payload()
     if answer.operation not in (None, ask.operation):
-        why = OPERATION_DIFFERS
-    elif answer.status == FAILED:
-        why = 0 if is_founded(run, ask, answer.reason) else REASON_UNFOUNDED
+        return OPERATION_DIFFERS
+    if is_about_aside(run, ask, answer):
+        return take_aside(run, ask, answer)
+    meant = run.meant(ask, answer)
+    said, why = answer.payload or Payload(), 0
+    if answer.status == FAILED:
+        why = 0 if is_founded(run, ask, answer.reason, meant) else REASON_UNFOUNDED
     elif ask.operation in (CREATE, REGISTER):
         why = why_of_birth(run, ask, said)
     elif ask.operation == LOCATE:
@@ -140,7 +171,9 @@ def take(run: Run, ask: Ask, answer: Answer) -> int:
         why = why_on_object(run, ask, answer, meant)
     why = why or (ECHO_DIFFERS if echoes_wrongly(ask, answer, meant) else 0)
     if not why and answer.status != FAILED:
-        leave(run, ask, said, meant)
+        why = NOT_VISIBLE if shows_hidden(run, ask, said, meant) else 0
+        if not why:
+            leave(run, ask, said, meant)
     return why
 
 
@@ -148,10 +181,11 @@ def leave(run: Run, ask: Ask, said: Payload, meant: Optional[str]) -> None:
     """What a success leaves."""
     if ask.operation in (CREATE, REGISTER):
         identifier = said.identifier or ""
-        run.inventory[identifier] = born(ask.kind, ask.attributes, run.now, ask.key.data if ask.key is not None else None)
-        run.placeholder = identifier
+        run.aside.discard(identifier)
+        run.inventory[identifier] = born(ask.kind, ask.attributes, run.now, ask.key.data if ask.key is not None else None, run.client)
+        run.hold(identifier)
     elif ask.operation == LOCATE:
-        run.placeholder = said.identifiers[0] if len(said.identifiers) == 1 else None
+        run.hold(said.identifiers[0] if len(said.identifiers) == 1 else None)
     elif ask.operation == GET and said.key is not None and meant is not None:
         run.inventory[meant].secret.known = said.key.data
     elif ask.operation in (ACTIVATE, REVOKE, DESTROY) and meant is not None:
