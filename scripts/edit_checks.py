@@ -7,11 +7,14 @@ proofs are left out, and that a function calls what isn't proved doesn't count.
 """
 from __future__ import annotations
 
+import math
 import os
 import re
 import shutil
 import subprocess
 import tempfile
+import threading
+import time
 from dataclasses import dataclass, field, replace
 from pathlib import Path
 from typing import Optional
@@ -45,8 +48,8 @@ def kit_folder() -> Path:
 
 @dataclass(frozen=True)
 class Verdict:
-    """What was found of an edit: 'refused', 'let through', 'stale', 'not judged', or 'to be reopened', the words for it, and the answers by
-    hand that don't fit its body and are to be reopened, with the folder of the proof that has them: their goals are left to the prover then."""
+    """What was found of an edit: 'refused', 'let through', 'stale', 'not judged', 'not come to' or 'to be reopened', the words for it, and the
+    answers by hand that don't fit its body and are to be reopened, with the folder of the proof that has them: their goals are left to the prover then."""
 
     kind: str
     words: str
@@ -57,7 +60,7 @@ class Verdict:
 @dataclass
 class Crate:
     """A crate: its folder, what it uses of the repository and of the kit, where libraries are built, and what its checks have taken of a
-    processor, in seconds, and the largest of memory, in bytes."""
+    processor, in seconds, and the largest of memory, in bytes; and when its checks are to end, by the clock that runs on."""
 
     name: str
     folder: Path
@@ -67,6 +70,7 @@ class Crate:
     seconds: float = 0.0
     memory: int = 0
     words: list[str] = field(default_factory=list)
+    ends: float = math.inf
 
     def all_below(self) -> list[Crate]:
         """Every crate of the repository below it, the lowest first."""
@@ -105,7 +109,12 @@ class Crate:
         with tempfile.TemporaryFile() as out:
             command = [str(kit_folder() / "bin/rattle"), *words]
             ran = subprocess.Popen(command, cwd=room, stdin=subprocess.DEVNULL, stdout=out, stderr=subprocess.STDOUT)
+            # a limit is at most a day away, or none at all
+            killer = threading.Timer(min(self.ends - time.monotonic(), 86_400), ran.kill)
+            killer.daemon = True
+            killer.start()
             _, status, used = os.wait4(ran.pid, 0)
+            killer.cancel()
             ran.returncode = status
             self.seconds += used.ru_utime + used.ru_stime
             self.memory = max(self.memory, used.ru_maxrss << 10)

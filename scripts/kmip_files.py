@@ -135,8 +135,12 @@ TRANSCRIPT_HEADER = structure(0x540001, integer(0x540002, 1))
 WITNESS_HEADER = witness_header(1)
 
 
-def declaration_header(unique_names: bool = False) -> bytes:
-    return structure(0x540030, integer(0x540002, 1), boolean(0x540031, unique_names))
+def declaration_header(unique_names: bool = False, tolerance: int | None = None) -> bytes:
+    """A header of version 1; of version 2, where a tolerance is given."""
+    if tolerance is None:
+        return structure(0x540030, integer(0x540002, 1), boolean(0x540031, unique_names))
+    rules = enumeration(0x540035, 1), integer(0x540036, tolerance), enumeration(0x540037, 1)
+    return structure(0x540030, integer(0x540002, 2), boolean(0x540031, unique_names), *rules)
 
 
 def row(reason: int, cause: int) -> bytes:
@@ -163,6 +167,21 @@ def given_answer(message: bytes) -> bytes:
 def place(number: int) -> bytes:
     """The place of an item, in the order in which a turn takes those of a call without order."""
     return integer(0x540045, number)
+
+
+def moment(second: int) -> bytes:
+    """The moment at which a turn has its call taken."""
+    return date(0x540046, second)
+
+
+def birth(number: int, *attributes: bytes) -> bytes:
+    """The attributes that a turn gives, of the server's own, to the object that an item makes."""
+    return structure(0x540047, integer(0x540043, number), structure(0x420125, *attributes))
+
+
+def aside(number: int) -> bytes:
+    """An item that a turn sets aside."""
+    return integer(0x540048, number)
 
 
 def fill(number: int, *payload: bytes) -> bytes:
