@@ -11,6 +11,16 @@ pub struct Wish {
     pub to: usize,
 }
 
+impl Wish {
+    /// The other way round.
+    pub(crate) fn turned(self) -> Wish {
+        Wish {
+            from: self.to,
+            to: self.from,
+        }
+    }
+}
+
 /// What an item of an open call does to an object.
 #[derive(Clone, Copy, PartialEq, Eq, PartialOrd, Ord)]
 pub struct Done {
@@ -89,6 +99,9 @@ fn wishes_of(alloc: Global, times: &[Time], course: &Course) -> Result<Vec<Wish>
         make_wish(&mut wishes, times, *from, *to)?;
     }
     for reader in &course.readers {
+        if reader.gate.is_some() {
+            continue;
+        }
         let low = reader.slots.trailing_zeros() as usize;
         let high = 63usize.saturating_sub(reader.slots.leading_zeros() as usize);
         wish_between(&mut wishes, times, course, reader.call, low, high)?;
@@ -128,7 +141,7 @@ fn make_wish(
     Ok(())
 }
 
-/// Adds the choice of a reader among runs of slots, where there is more than one.
+/// Adds the choice of a reader among runs of slots, where there is more than one, or where its items need not be done.
 fn add_gaps(
     alloc: Global,
     choices: &mut Vec<Choice>,
@@ -138,6 +151,11 @@ fn add_gaps(
     under: (usize, usize),
 ) -> Result<(), AllocError> {
     let mut options = Vec::new(alloc);
+    if let Some(gate) = reader.gate {
+        let mut wishes = Vec::new(alloc);
+        wishes.push(gate.turned())?;
+        options.push(wishes)?;
+    }
     let mut low = None;
     for slot in 0..course.chain.len().saturating_add(2) {
         let is_in = reader.slots & bit_of(slot) != 0;
@@ -146,6 +164,9 @@ fn add_gaps(
             Some(first) if !is_in => {
                 let mut wishes = Vec::new(alloc);
                 let last = slot.saturating_sub(1);
+                if let Some(gate) = reader.gate {
+                    wishes.push(gate)?;
+                }
                 wish_between(&mut wishes, times, course, reader.call, first, last)?;
                 options.push(wishes)?;
                 low = None;

@@ -51,6 +51,17 @@ pub struct Known<'b> {
     pub shown: Shown<'b>,
 }
 
+/// Attributes that an object has, if one of the items of open calls that may have brought it did.
+#[derive(Clone, Copy)]
+pub struct Guise<'b> {
+    pub object: usize,
+    pub kind: ObjectType,
+    pub given: &'b AttrSet,
+}
+
+/// The identifier of an object that nothing shows.
+const UNSEEN: &str = "open-unseen";
+
 /// The objects that the calls and the declaration speak of, and the items about them.
 #[derive(Drop)]
 pub struct Items<'b> {
@@ -58,6 +69,10 @@ pub struct Items<'b> {
     pub objects: Vec<Known<'b>>,
     pub touches: Vec<Touch>,
     pub looks: Vec<Look<'b>>,
+    /// Those of the objects that nothing brings but open calls, object by object.
+    pub guises: Vec<Guise<'b>>,
+    /// So many objects are spoken of. Those behind them nothing shows.
+    pub known: usize,
 }
 
 /// Whom an item is about.
@@ -72,6 +87,20 @@ enum Aim<'b> {
     Nothing,
 }
 
+impl<'b> Known<'b> {
+    /// The object with this identifier, of which nothing else is known.
+    fn of(id: &'b str) -> Known<'b> {
+        Known {
+            id,
+            given: None,
+            born: None,
+            gone: None,
+            listed: 0,
+            shown: Shown::nothing(),
+        }
+    }
+}
+
 impl<'b> Items<'b> {
     /// Those of a declaration and of calls, but for the objects that a Locate leaves out.
     pub(crate) fn of<'a>(
@@ -84,12 +113,20 @@ impl<'b> Items<'b> {
             objects: Vec::new(alloc),
             touches: Vec::new(alloc),
             looks: Vec::new(alloc),
+            guises: Vec::new(alloc),
+            known: 0,
         };
         items.take_entries(declaration)?;
         for (place, call) in calls.iter().enumerate() {
             items.take_call(place, call)?;
         }
+        items.known = items.objects.len();
         Ok(items)
+    }
+
+    /// Whether calls speak of an object.
+    pub(crate) fn has(&self, id: &'b str) -> bool {
+        self.numbers.get(&id).is_some()
     }
 
     /// The number of an object that calls speak of.
@@ -113,16 +150,43 @@ impl<'b> Items<'b> {
             return Ok(*number);
         }
         let number = self.objects.len();
-        self.objects.push(Known {
-            id,
-            given: None,
-            born: None,
-            gone: None,
-            listed: 0,
-            shown: Shown::nothing(),
-        })?;
+        self.objects.push(Known::of(id))?;
         self.numbers.insert(id, number)?;
         Ok(number)
+    }
+
+    /// The number of an object that nothing shows.
+    pub(crate) fn add_unseen(&mut self) -> Result<usize, AllocError> {
+        let number = self.objects.len();
+        self.objects.push(Known::of(UNSEEN))?;
+        Ok(number)
+    }
+
+    /// Notes attributes that an object may have, behind those of all objects of lesser numbers.
+    pub(crate) fn note_guise(&mut self, guise: Guise<'b>) -> Result<(), AllocError> {
+        self.guises.push(guise)?;
+        if let Some(known) = self.objects.get_mut(guise.object) {
+            if known.given.is_none() {
+                known.given = Some((guise.kind, guise.given));
+            }
+        }
+        Ok(())
+    }
+
+    /// Notes an item that means an object.
+    pub(crate) fn touch_object(
+        &mut self,
+        object: usize,
+        call: usize,
+        item: usize,
+    ) -> Result<(), AllocError> {
+        self.touches.push(Touch {
+            object,
+            call,
+            item,
+            part: Part::Means,
+        })?;
+        Ok(())
     }
 
     fn take_call<'a>(&mut self, place: usize, call: &'b Call<'a>) -> Result<(), AllocError> {
@@ -188,12 +252,23 @@ impl<'b> Items<'b> {
             }
             (payload, Aim::Object(id)) => {
                 if let Some(id) = id.or(held) {
+                    let given = self.given(id);
                     if let Some(shown) = self.shown(id) {
-                        shown.take(payload, end);
+                        shown.take(payload, end, given);
                     }
                 }
             }
             _ => {}
+        }
+    }
+
+    /// The attributes that an object was given at its birth, where that is known.
+    fn given(&self, id: &'b str) -> Option<&'b AttrSet> {
+        let number = self.find(id)?;
+        let known = self.objects.get(number)?;
+        match known.given {
+            Some((_, given)) => Some(given),
+            None => None,
         }
     }
 

@@ -13,6 +13,7 @@ mod hidden;
 mod items;
 mod lives;
 mod looks;
+mod matching;
 mod mending;
 mod openings;
 mod proposing;

@@ -16,6 +16,8 @@ use std::alloc::{AllocError, Global};
 pub struct Reader {
     pub call: usize,
     pub slots: u64,
+    /// What is wished where its items are done, if they need not be.
+    pub gate: Option<Wish>,
 }
 
 /// The course of a life: the calls that change the object, in their order, and the others, but for those that fit in everywhere.
@@ -46,11 +48,33 @@ pub(crate) fn lives_of<L: Ledger>(
     requires { IsSound (L.state ledger.old).now }
     ensures { IsSound (L.state ledger.new).now }
 {
-    let mut lives = Vec::new(alloc);
+    let mut lives = absences_of(alloc, recording, story)?;
     let chains = chains_of(alloc, ledger, recording, story)?;
     'chains: for chain in &chains {
         if let Some(life) = life_along(alloc, ledger, recording, story, chain)? {
             lives.push(life)?;
+        }
+    }
+    Ok(lives)
+}
+
+/// The ways in which an object isn't there that nothing shows.
+fn absences_of(
+    alloc: Global,
+    recording: &Recording<'_, '_>,
+    story: &Story<'_>,
+) -> Result<Vec<Course>, AllocError> {
+    let mut lives = Vec::new(alloc);
+    if story.is_unseen {
+        for wish in &recording.switches.absences(alloc, recording, story)? {
+            let mut wishes = Vec::new(alloc);
+            wishes.push(*wish)?;
+            lives.push(Course {
+                chain: Vec::new(alloc),
+                readers: Vec::new(alloc),
+                wishes,
+                done: Vec::new(alloc),
+            })?;
         }
     }
     Ok(lives)
@@ -67,6 +91,9 @@ fn life_along<L: Ledger>(
     requires { IsSound (L.state ledger.old).now }
     ensures { IsSound (L.state ledger.new).now }
 {
+    if story.is_unseen && chain.is_empty() {
+        return Ok(None);
+    }
     let spans = spans_of(alloc, recording, story, chain)?;
     let mut slots = vec![in alloc; 0u64; spans.len()]?;
     'slots: for slot in 0..chain.len() + 1 {
@@ -90,7 +117,11 @@ fn spans_of(
     }
     let mut spans = Vec::with_capacity(alloc, story.groups.len())?;
     for (group, own) in story.groups.iter().enumerate() {
-        let is_change = own.is_open || chain.iter().any(|other| *other == group);
+        let is_change = if own.is_asked {
+            chain.iter().any(|other| story.is_of_call(*other, group))
+        } else {
+            own.is_open || chain.iter().any(|other| *other == group)
+        };
         spans.push(span_of(story.time(&recording.times, group), &times, is_change))?;
     }
     Ok(spans)
@@ -194,22 +225,23 @@ fn life_of_slots(
 ) -> Result<Option<Course>, AllocError> {
     let everywhere = bit_of(chain.len() + 1).wrapping_sub(1);
     let mut readers = Vec::new(alloc);
-    for ((group, span), slots) in story.groups.iter().zip(spans.iter()).zip(slots.iter()) {
-        if span.is_change {
-            continue;
-        }
-        if *slots == 0 {
-            return Ok(None);
-        }
-        if *slots != everywhere {
-            readers.push(Reader {
-                call: group.call,
-                slots: *slots,
-            })?;
-        }
-    }
     let mut wishes = Vec::new(alloc);
     let mut done = Vec::new(alloc);
+    for ((group, span), slots) in story.groups.iter().zip(spans.iter()).zip(slots.iter()) {
+        if span.is_change || *slots == everywhere {
+            continue;
+        }
+        let gate = recording.switches.gate_of(recording, story, *group);
+        match gate {
+            Some(gate) if *slots == 0 => wishes.push(gate.turned())?,
+            None if *slots == 0 => return Ok(None),
+            _ => readers.push(Reader {
+                call: group.call,
+                slots: *slots,
+                gate,
+            })?,
+        }
+    }
     let switches = &recording.switches;
     switches.wish(recording, story, chain, &mut wishes, &mut done)?;
     Ok(Some(Course {

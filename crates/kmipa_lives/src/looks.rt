@@ -2,11 +2,11 @@
 //!
 //! What a Locate sees of an object is kept only where it may depend on the order of calls.
 
-use crate::items::{Items, Known, Part, Touch};
+use crate::items::{Guise, Items, Known, Part, Touch};
 use crate::spreads::Spreads;
 use crate::stories::Recording;
 use crate::times::{Time, time_at};
-use kmipa_attrs::{AttrSet, Filter, Name};
+use kmipa_attrs::{AttrSet, Filter, Name, ObjectType};
 use std::alloc::{AllocError, Global};
 
 /// So many items are kept at most.
@@ -40,7 +40,7 @@ pub(crate) fn leave_out(
 ) -> Result<bool, AllocError> {
     let times = recording.times.as_slice();
     let spreads = Spreads::of(alloc, recording, &items.touches, items.objects.len())?;
-    let bearers = bearers_of(alloc, &items.objects)?;
+    let bearers = bearers_of(alloc, &items.objects, &items.guises)?;
     let looks = Vec::from_slice(alloc, &items.looks)?;
     for (place, look) in looks.iter().enumerate() {
         let number = place.saturating_add(1);
@@ -94,14 +94,22 @@ fn is_strict(look: &Look<'_>) -> bool {
 }
 
 /// The objects by their names.
-fn bearers_of<'b>(alloc: Global, objects: &[Known<'b>]) -> Result<Vec<Bearer<'b>>, AllocError> {
+fn bearers_of<'b>(
+    alloc: Global,
+    objects: &[Known<'b>],
+    guises: &[Guise<'b>],
+) -> Result<Vec<Bearer<'b>>, AllocError> {
     let mut bearers = Vec::new(alloc);
+    for guise in guises {
+        add_bearers(&mut bearers, guise.object, guise.given)?;
+    }
     for (object, known) in objects.iter().enumerate() {
         if let Some((_, given)) = known.given {
             add_bearers(&mut bearers, object, given)?;
         }
     }
     bearers.sort()?;
+    bearers.dedup();
     Ok(bearers)
 }
 
@@ -159,9 +167,12 @@ fn leave_out_one(
     let Some(known) = items.objects.get(object) else {
         return Ok(());
     };
+    let from = items.guises.partition_point(|guise| guise.object < object);
+    let to = items.guises.partition_point(|guise| guise.object <= object);
+    let guises = items.guises.get(from..to).unwrap_or(&[]);
     if known.listed != number
         && spreads.are_open(times, object, time_at(times, look.call))
-        && may_matter(known, times, look)
+        && may_matter(known, guises, times, look)
     {
         items.touches.push(Touch {
             object,
@@ -174,7 +185,7 @@ fn leave_out_one(
 }
 
 /// Whether the object may be live at the Locate, and fit it.
-fn may_matter(known: &Known<'_>, times: &[Time], look: &Look<'_>) -> bool {
+fn may_matter(known: &Known<'_>, guises: &[Guise<'_>], times: &[Time], look: &Look<'_>) -> bool {
     let Some((kind, given)) = known.given else {
         return false;
     };
@@ -189,7 +200,15 @@ fn may_matter(known: &Known<'_>, times: &[Time], look: &Look<'_>) -> bool {
     };
     !is_early
         && !is_late
-        && is_or_any(look.filter.object_type, Some(kind.number()))
+        && (may_fit(look, kind, given)
+            || guises
+                .iter()
+                .any(|guise| may_fit(look, guise.kind, guise.given)))
+}
+
+/// Whether an object of these attributes may fit a Locate.
+fn may_fit(look: &Look<'_>, kind: ObjectType, given: &AttrSet) -> bool {
+    is_or_any(look.filter.object_type, Some(kind.number()))
         && is_or_any(look.filter.algorithm, given.algorithm)
         && is_or_any(look.filter.length, given.length)
         && has_names(given.names.as_slice(), look.filter.names.as_slice())

@@ -1,11 +1,13 @@
 //! Calls without an end mark, and the objects that they may be about.
 
 use crate::hidden::{is_about_held, is_setting};
-use crate::items::{Items, Part};
+use crate::items::{Guise, Items, Part};
+use crate::matching::{Maker, Matching};
 use crate::shown::Shown;
+use crate::times::{Time, time_at};
 use kmipa_attrs::{AttrSet, ObjectType};
 use kmipa_check::Call;
-use kmipa_msgs::{Ask, Asked};
+use kmipa_msgs::{Ask, Asked, BatchOption};
 use kmipa_ops::{Effect, row_of};
 use std::alloc::{AllocError, Global};
 
@@ -13,42 +15,43 @@ use std::alloc::{AllocError, Global};
 const MOST_MAKERS: usize = 24;
 
 /// So many of them are looked at.
-const LOOKED_AT: usize = 1024;
-
-/// An item of an open call that makes an object if it was done.
-#[derive(Clone, Copy)]
-struct Maker {
-    call: usize,
-    item: usize,
-    /// The place of the call's begin mark.
-    begin: usize,
-    /// Of so many objects it was the first that may have brought them.
-    uses: usize,
-}
+const LOOKED_AT: usize = 256;
 
 /// Notes what open calls may have done to the objects that ended calls speak of.
 pub(crate) fn add_openings<'b, 'a>(
     alloc: Global,
     items: &mut Items<'b>,
     calls: &'b [Call<'a>],
+    times: &[Time],
 ) -> Result<(), AllocError> {
     for (place, call) in calls.iter().enumerate() {
         if call.end.is_none() {
-            add_changers(items, place, &call.request.items)?;
+            add_named(items, place, call)?;
         }
     }
-    add_makers(alloc, items, calls)
+    let makers = makers_of(alloc, calls, times)?;
+    add_makers(alloc, items, calls, &makers)?;
+    items.known = items.objects.len();
+    for maker in &makers {
+        add_unseen(items, calls, *maker)?;
+    }
+    Ok(())
 }
 
-/// Notes the items of an open call that change an object that they name.
-fn add_changers<'b, 'a>(
+/// Whether what one item of a call does hangs on the others.
+pub(crate) fn is_bound(call: &Call<'_>) -> bool {
+    call.request.items.len() > 1 && call.request.option != BatchOption::Continue
+}
+
+/// Notes the items of an open call about objects that they name: those that change one, and where all hang together, the others.
+fn add_named<'b, 'a>(
     items: &mut Items<'b>,
     place: usize,
-    asks: &'b [Ask<'a>],
+    call: &'b Call<'a>,
 ) -> Result<(), AllocError> {
-    for (item, ask) in asks.iter().enumerate() {
-        if let Some(id) = changed_id(&ask.asked) {
-            if items.find(id).is_some() {
+    for (item, ask) in call.request.items.iter().enumerate() {
+        if let Some(id) = named_id(&ask.asked) {
+            if items.find(id).is_some() && (is_changer(&ask.asked) || is_bound(call)) {
                 items.touch(id, place, item, Part::Means)?;
             }
         }
@@ -56,9 +59,11 @@ fn add_changers<'b, 'a>(
     Ok(())
 }
 
-/// The identifier of the object that an item changes, where it names it.
-pub(crate) fn changed_id<'b, 'a>(asked: &'b Asked<'a>) -> Option<&'b str> {
+/// The identifier of the object that an item is about, where it names it.
+pub(crate) fn named_id<'b, 'a>(asked: &'b Asked<'a>) -> Option<&'b str> {
     match asked {
+        Asked::Get(get) => get.id,
+        Asked::GetAttributes(get) => get.id,
         Asked::Activate(activate) => activate.id,
         Asked::Revoke(revoke) => revoke.id,
         Asked::Destroy(destroy) => destroy.id,
@@ -67,7 +72,7 @@ pub(crate) fn changed_id<'b, 'a>(asked: &'b Asked<'a>) -> Option<&'b str> {
 }
 
 /// Whether an item changes an object.
-fn is_changer(asked: &Asked<'_>) -> bool {
+pub(crate) fn is_changer(asked: &Asked<'_>) -> bool {
     match asked {
         Asked::Activate(_) => true,
         Asked::Revoke(_) => true,
@@ -81,18 +86,18 @@ fn add_makers<'b, 'a>(
     alloc: Global,
     items: &mut Items<'b>,
     calls: &'b [Call<'a>],
+    makers: &[Maker],
 ) -> Result<(), AllocError> {
-    let mut makers = makers_of(alloc, calls)?;
-    for (by, object) in &orphans_of(alloc, items)? {
-        let fitting = fitting_makers(alloc, items, calls, &makers, *by, *object)?;
-        if let Some((_, first)) = fitting.first() {
-            if let Some(maker) = makers.get_mut(*first) {
-                maker.uses = maker.uses.saturating_add(1);
-                note_given(items, calls, *maker, *object);
-            }
-        }
-        for (_, number) in &fitting {
-            if let Some(maker) = makers.get(*number).copied() {
+    let orphans = orphans_of(alloc, items)?;
+    let mut fits = Vec::with_capacity(alloc, orphans.len())?;
+    for (by, object) in &orphans {
+        fits.push(fitting_makers(alloc, items, calls, makers, *by, *object)?)?;
+    }
+    let matching = Matching::of(alloc, fits, makers.len())?;
+    for (object, number) in &by_object(alloc, &orphans)? {
+        for place in &matching.likeliest(*number, MOST_MAKERS)? {
+            if let Some(maker) = makers.get(*place).copied() {
+                add_guise(items, calls, maker, *object)?;
                 add_maker(items, calls, maker, *object)?;
             }
         }
@@ -100,24 +105,39 @@ fn add_makers<'b, 'a>(
     Ok(())
 }
 
-fn makers_of(alloc: Global, calls: &[Call<'_>]) -> Result<Vec<Maker>, AllocError> {
+/// These objects by their numbers, each with its place here.
+fn by_object(alloc: Global, orphans: &[(usize, usize)]) -> Result<Vec<(usize, usize)>, AllocError> {
+    let mut objects = Vec::with_capacity(alloc, orphans.len())?;
+    for (place, (_, object)) in orphans.iter().enumerate() {
+        objects.push((*object, place))?;
+    }
+    objects.sort_unstable();
+    Ok(objects)
+}
+
+fn makers_of(alloc: Global, calls: &[Call<'_>], times: &[Time]) -> Result<Vec<Maker>, AllocError> {
     let mut makers = Vec::new(alloc);
     for (place, call) in calls.iter().enumerate() {
         if call.end.is_none() {
-            push_makers(&mut makers, place, call)?;
+            push_makers(&mut makers, place, call, time_at(times, place).stamp)?;
         }
     }
     Ok(makers)
 }
 
-fn push_makers(makers: &mut Vec<Maker>, place: usize, call: &Call<'_>) -> Result<(), AllocError> {
+fn push_makers(
+    makers: &mut Vec<Maker>,
+    place: usize,
+    call: &Call<'_>,
+    stamp: i64,
+) -> Result<(), AllocError> {
     for (item, ask) in call.request.items.iter().enumerate() {
         if made_by(ask).is_some() {
             makers.push(Maker {
                 call: place,
                 item,
                 begin: call.begin,
-                uses: 0,
+                stamp,
             })?;
         }
     }
@@ -144,7 +164,7 @@ fn orphans_of(alloc: Global, items: &Items<'_>) -> Result<Vec<(usize, usize)>, A
     Ok(orphans)
 }
 
-/// The makers that may have brought an object, those that are used least first.
+/// The makers that may have brought an object, the latest first.
 fn fitting_makers(
     alloc: Global,
     items: &Items<'_>,
@@ -152,65 +172,104 @@ fn fitting_makers(
     makers: &[Maker],
     by: usize,
     object: usize,
-) -> Result<Vec<(usize, usize)>, AllocError> {
+) -> Result<Vec<usize>, AllocError> {
     let mut fitting = Vec::new(alloc);
     let Some(known) = items.objects.get(object) else {
         return Ok(fitting);
     };
-    for (number, maker) in makers.iter().enumerate() {
+    for behind in 1..makers.len().saturating_add(1) {
+        let number = makers.len().saturating_sub(behind);
+        let Some(maker) = makers.get(number) else {
+            break;
+        };
         if fitting.len() < LOOKED_AT && maker.begin < by && may_bring(calls, *maker, &known.shown) {
-            fitting.push((maker.uses, number))?;
+            fitting.push(number)?;
         }
     }
-    fitting.sort_unstable();
-    fitting.truncate(MOST_MAKERS);
     Ok(fitting)
 }
 
 fn may_bring(calls: &[Call<'_>], maker: Maker, shown: &Shown<'_>) -> bool {
-    match calls.get(maker.call) {
-        Some(call) => match call.request.items.get(maker.item) {
-            Some(ask) => shown.may_be_of(ask),
-            None => false,
-        },
-        None => false,
-    }
-}
-
-/// The object is taken to have the attributes that a maker gives.
-fn note_given<'b, 'a>(items: &mut Items<'b>, calls: &'b [Call<'a>], maker: Maker, object: usize) {
     let Some(call) = calls.get(maker.call) else {
-        return;
+        return false;
     };
-    if let (Some(ask), Some(known)) = (
-        call.request.items.get(maker.item),
-        items.objects.get_mut(object),
-    ) {
-        known.given = made_by(ask);
-    }
+    let Some(ask) = call.request.items.get(maker.item) else {
+        return false;
+    };
+    let is_late = match shown.date_left(&ask.asked) {
+        Some(date) => date < maker.stamp,
+        None => false,
+    };
+    !is_late && shown.may_be_of(ask)
 }
 
-/// Notes a maker of an object, and the items behind it that change what it makes.
+/// The object may have the attributes that a maker gives.
+fn add_guise<'b, 'a>(
+    items: &mut Items<'b>,
+    calls: &'b [Call<'a>],
+    maker: Maker,
+    object: usize,
+) -> Result<(), AllocError> {
+    let Some(call) = calls.get(maker.call) else {
+        return Ok(());
+    };
+    if let Some(ask) = call.request.items.get(maker.item) {
+        if let Some((kind, given)) = made_by(ask) {
+            items.note_guise(Guise {
+                object,
+                kind,
+                given,
+            })?;
+        }
+    }
+    Ok(())
+}
+
+/// Notes a maker of an object, and the items behind it that are about what it makes.
 fn add_maker<'b, 'a>(
     items: &mut Items<'b>,
     calls: &'b [Call<'a>],
     maker: Maker,
     object: usize,
 ) -> Result<(), AllocError> {
-    let (Some(call), Some(known)) = (calls.get(maker.call), items.objects.get(object)) else {
+    let Some(call) = calls.get(maker.call) else {
         return Ok(());
     };
-    let id = known.id;
-    items.touch(id, maker.call, maker.item, Part::Means)?;
+    items.touch_object(object, maker.call, maker.item)?;
     for (item, ask) in call.request.items.iter().enumerate() {
         if item > maker.item {
             if is_setting(&ask.asked) {
                 break;
             }
-            if is_about_held(&ask.asked) && is_changer(&ask.asked) {
-                items.touch(id, maker.call, item, Part::Means)?;
+            if is_about_held(&ask.asked) && (is_changer(&ask.asked) || is_bound(call)) {
+                items.touch_object(object, maker.call, item)?;
             }
         }
     }
     Ok(())
+}
+
+/// Notes that a maker may have brought an object that nothing shows, where that may be for the sake of other items.
+fn add_unseen<'b, 'a>(
+    items: &mut Items<'b>,
+    calls: &'b [Call<'a>],
+    maker: Maker,
+) -> Result<(), AllocError> {
+    let Some(call) = calls.get(maker.call) else {
+        return Ok(());
+    };
+    if !is_bound(call) || !has_other_deed(call, maker.item) {
+        return Ok(());
+    }
+    let object = items.add_unseen()?;
+    add_guise(items, calls, maker, object)?;
+    add_maker(items, calls, maker, object)
+}
+
+/// Whether another item of a call may make an object, or change one that it names.
+fn has_other_deed(call: &Call<'_>, maker: usize) -> bool {
+    call.request.items.iter().enumerate().any(|(item, ask)| {
+        item != maker
+            && (made_by(ask).is_some() || is_changer(&ask.asked) && named_id(&ask.asked).is_some())
+    })
 }

@@ -96,7 +96,13 @@ fn choices_of<L: Ledger>(
     'objects: for (object, known) in objects.iter().enumerate() {
         let to = touches.partition_point(|touch| touch.object <= object);
         let own = touches.get(from..to).unwrap_or(&[]);
-        let story = Story::of(alloc, recording, known, own)?;
+        let story = Story::of(
+            alloc,
+            recording,
+            known,
+            own,
+            recording.switches.is_unseen(object),
+        )?;
         let courses = lives_of(alloc, ledger, recording, &story)?;
         tries = tries.saturating_add(own.len().saturating_mul(courses.len()));
         if courses.is_empty() || tries > MOST_TRIES {

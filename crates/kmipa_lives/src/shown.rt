@@ -14,7 +14,9 @@ pub struct Shown<'b> {
     name: Option<&'b Name>,
     initial: Option<i64>,
     activation: Option<i64>,
-    revoked: Option<i64>,
+    /// The Deactivation Date, where that is another than the one that it was given.
+    pub deactivation: Option<i64>,
+    compromise: Option<i64>,
     destroy: Option<i64>,
 }
 
@@ -27,7 +29,8 @@ impl<'b> Shown<'b> {
             name: None,
             initial: None,
             activation: None,
-            revoked: None,
+            deactivation: None,
+            compromise: None,
             destroy: None,
         }
     }
@@ -45,22 +48,36 @@ impl<'b> Shown<'b> {
         self.name = self.name.or(filter.names.as_slice().first());
     }
 
-    /// An answer about it alone.
-    pub(crate) fn take<'a>(&mut self, payload: &'b Option<Payload<'a>>, end: usize) {
+    /// An answer about it alone. What it was given at its birth, where that is known, doesn't tell when it changed.
+    pub(crate) fn take<'a>(
+        &mut self,
+        payload: &'b Option<Payload<'a>>,
+        end: usize,
+        given: Option<&'b AttrSet>,
+    ) {
         self.note_end(end);
         match payload {
             Some(Payload::Get(got)) => self.got = self.got.or(Some(*got)),
-            Some(Payload::GetAttributes(got)) => self.take_attributes(&got.attributes),
+            Some(Payload::GetAttributes(got)) => self.take_attributes(&got.attributes, given),
             _ => {}
         }
     }
 
-    fn take_attributes(&mut self, shown: &'b AttrSet) {
+    fn take_attributes(&mut self, shown: &'b AttrSet, given: Option<&'b AttrSet>) {
+        let (activation, deactivation) = match given {
+            Some(given) => (given.activation, given.deactivation),
+            None => (None, None),
+        };
         self.name = self.name.or(shown.names.as_slice().first());
         self.attributes = self.attributes.or(Some(shown));
         self.initial = self.initial.or(shown.initial);
-        self.activation = self.activation.or(shown.activation);
-        self.revoked = self.revoked.or(shown.deactivation).or(shown.compromise);
+        if shown.activation != activation {
+            self.activation = self.activation.or(shown.activation);
+        }
+        if shown.deactivation != deactivation {
+            self.deactivation = self.deactivation.or(shown.deactivation);
+        }
+        self.compromise = self.compromise.or(shown.compromise);
         self.destroy = self.destroy.or(shown.destroy);
     }
 
@@ -70,7 +87,10 @@ impl<'b> Shown<'b> {
             Asked::Create(_) => self.initial,
             Asked::Register(_) => self.initial,
             Asked::Activate(_) => self.activation,
-            Asked::Revoke(_) => self.revoked,
+            Asked::Revoke(revoke) => match revoke.code {
+                2 | 3 => self.compromise,
+                _ => self.deactivation,
+            },
             Asked::Destroy(_) => self.destroy,
             _ => None,
         }

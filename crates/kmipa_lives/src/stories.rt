@@ -2,7 +2,7 @@
 
 use crate::hidden::is_about_held;
 use crate::items::{Known, Part, Touch};
-use crate::openings::made_by;
+use crate::openings::{is_bound, is_changer, made_by};
 use crate::shown::Shown;
 use crate::switches::Switches;
 use crate::times::{Time, time_at};
@@ -36,6 +36,10 @@ pub struct Group {
     pub is_needed: bool,
     /// Its call is open: it is a change, or isn't done.
     pub is_open: bool,
+    /// Its call is open, and its items leave the object as it is: they have to be possible only where others of the call are done.
+    pub is_asked: bool,
+    /// The items that may be done with these end before this place.
+    pub end: usize,
 }
 
 /// What the calls say of one object: its items, call by call.
@@ -45,6 +49,8 @@ pub struct Story<'s> {
     pub shown: Shown<'s>,
     pub touches: &'s [Touch],
     pub groups: Vec<Group>,
+    /// Nothing shows it: it is there only where an open call made it for the sake of other items.
+    pub is_unseen: bool,
 }
 
 impl<'s> Story<'s> {
@@ -54,6 +60,7 @@ impl<'s> Story<'s> {
         recording: &Recording<'_, '_>,
         known: &Known<'s>,
         touches: &'s [Touch],
+        is_unseen: bool,
     ) -> Result<Story<'s>, AllocError> {
         let mut groups: Vec<Group> = Vec::new(alloc);
         for (place, touch) in touches.iter().enumerate() {
@@ -67,7 +74,8 @@ impl<'s> Story<'s> {
             id: known.id,
             shown: known.shown,
             touches,
-            groups: with_parts(alloc, recording, &groups)?,
+            groups: with_parts(alloc, recording, touches, &groups)?,
+            is_unseen,
         })
     }
 
@@ -87,13 +95,38 @@ impl<'s> Story<'s> {
         })
     }
 
-    /// Whether a chain says of an item that it doesn't do that nothing does: it names the object, or its call makes it in this chain.
-    pub(crate) fn is_settled(&self, chain: &[usize], touch: Touch, ask: &Ask<'_>) -> bool {
-        !is_about_held(&ask.asked) && made_by(ask).is_none()
+    /// Whether a chain says of an item at a place that it doesn't do that nothing does: it changes the object by its name wherever it is
+    /// possible, or the chain does items ahead of it.
+    pub(crate) fn is_settled(&self, chain: &[usize], place: usize, ask: &Ask<'_>) -> bool {
+        is_changer(&ask.asked) && !is_idle_at_times(&ask.asked) && !is_about_held(&ask.asked)
             || chain.iter().any(|group| match self.groups.get(*group) {
-                Some(group) => group.call == touch.call,
+                Some(group) => group.from <= place && place < group.end,
                 None => false,
             })
+    }
+
+    /// The date that the success of the item at a place leaves behind a chain, as far as one is shown: a Destroy also deactivates what no Revoke
+    /// has.
+    pub(crate) fn date_left(
+        &self,
+        recording: &Recording<'_, '_>,
+        chain: &[usize],
+        ask: &Ask<'_>,
+    ) -> Option<i64> {
+        let date = self.shown.date_left(&ask.asked);
+        if date.is_some() || !is_destroy(&ask.asked) || self.is_revoked(recording, chain) {
+            return date;
+        }
+        self.shown.deactivation
+    }
+
+    /// Whether an item of a chain may deactivate by a Revoke.
+    fn is_revoked(&self, recording: &Recording<'_, '_>, chain: &[usize]) -> bool {
+        chain.iter().any(|group| {
+            self.items(*group)
+                .iter()
+                .any(|touch| is_deactivating(recording, *touch))
+        })
     }
 
     /// The items of a group.
@@ -134,39 +167,192 @@ impl Group {
             is_change: effect != Effect::None,
             is_needed: effect == Effect::Sure,
             is_open,
+            is_asked: false,
+            end: place.saturating_add(1),
         }
     }
 
     fn take(&mut self, place: usize, effect: Effect) {
         self.to = place.saturating_add(1);
+        self.end = self.to;
         self.is_change = self.is_change || effect != Effect::None;
         self.is_needed = self.is_needed || effect == Effect::Sure;
     }
 }
 
-/// The groups, and for one of an open call also each part of it from the front on, unless its batch is done whole or not at all.
+/// The groups, and in the place of one of an open call the parts of it that may be done.
 fn with_parts(
     alloc: Global,
     recording: &Recording<'_, '_>,
+    touches: &[Touch],
     groups: &[Group],
 ) -> Result<Vec<Group>, AllocError> {
     let mut all = Vec::with_capacity(alloc, groups.len())?;
     for group in groups {
-        if group.is_open && !is_whole(recording, group.call) {
-            for to in group.from.saturating_add(1)..group.to {
-                all.push(Group { to, ..*group })?;
-            }
+        if group.is_open {
+            add_segments(recording, touches, *group, &mut all)?;
+        } else {
+            all.push(*group)?;
         }
-        all.push(*group)?;
     }
     Ok(all)
 }
 
-/// Whether a call is done whole or not at all.
-fn is_whole(recording: &Recording<'_, '_>, call: usize) -> bool {
-    match recording.calls.get(call) {
-        Some(call) => call.request.option == BatchOption::Undo,
-        None => true,
+/// Adds the parts of a group: the items behind one that makes the object go with it alone.
+fn add_segments(
+    recording: &Recording<'_, '_>,
+    touches: &[Touch],
+    group: Group,
+    all: &mut Vec<Group>,
+) -> Result<(), AllocError> {
+    let mut from = group.from;
+    for place in group.from.saturating_add(1)..group.to.saturating_add(1) {
+        if place == group.to || is_maker(recording, touches, place) {
+            let segment = Group {
+                from,
+                to: place,
+                end: place,
+                is_change: true,
+                ..group
+            };
+            add_parts(recording, touches, segment, all)?;
+            from = place;
+        }
+    }
+    Ok(())
+}
+
+/// Adds the parts of items that go together: of a batch under Undo the whole, under Stop each from the front on. Those that may leave the object as
+/// it is need not be done.
+fn add_parts(
+    recording: &Recording<'_, '_>,
+    touches: &[Touch],
+    segment: Group,
+    all: &mut Vec<Group>,
+) -> Result<(), AllocError> {
+    let Some(call) = recording.calls.get(segment.call) else {
+        return Ok(());
+    };
+    if !is_bound(call) {
+        return add_runs(recording, touches, segment, all);
+    }
+    let first = first_change(recording, touches, segment, false);
+    let sure = first_change(recording, touches, segment, true);
+    let from = match call.request.option {
+        BatchOption::Undo => segment.end.saturating_sub(1),
+        _ => segment.from,
+    };
+    for to in from.saturating_add(1)..segment.end.saturating_add(1) {
+        if to > first {
+            all.push(Group { to, ..segment })?;
+        }
+        if to <= sure {
+            all.push(Group {
+                to,
+                is_change: false,
+                is_asked: true,
+                ..segment
+            })?;
+        }
+    }
+    Ok(())
+}
+
+/// So many items that hang on nothing are combined.
+const MOST_COMBINED: usize = 8;
+
+/// Adds each run of items that hang on nothing but the one that makes the object.
+fn add_runs(
+    recording: &Recording<'_, '_>,
+    touches: &[Touch],
+    segment: Group,
+    all: &mut Vec<Group>,
+) -> Result<(), AllocError> {
+    let count = segment.end.saturating_sub(segment.from);
+    let last = if is_maker(recording, touches, segment.from) || count > MOST_COMBINED {
+        segment.from.saturating_add(1)
+    } else {
+        segment.end
+    };
+    for from in segment.from..last {
+        for to in from.saturating_add(1)..segment.end.saturating_add(1) {
+            all.push(Group {
+                from,
+                to,
+                ..segment
+            })?;
+        }
+    }
+    Ok(())
+}
+
+/// The place of the first item that makes or changes the object, or that does wherever it is possible; the end where there is none.
+fn first_change(
+    recording: &Recording<'_, '_>,
+    touches: &[Touch],
+    segment: Group,
+    is_sure: bool,
+) -> usize {
+    for place in segment.from..segment.end {
+        if let Some(touch) = touches.get(place) {
+            if may_change(recording, *touch) && !(is_sure && is_revoke(recording, *touch)) {
+                return place;
+            }
+        }
+    }
+    segment.end
+}
+
+/// What an item asks for.
+fn asked_by<'b, 'a>(recording: &Recording<'b, 'a>, touch: Touch) -> Option<&'b Asked<'a>> {
+    let call = recording.calls.get(touch.call)?;
+    let ask = call.request.items.get(touch.item)?;
+    Some(&ask.asked)
+}
+
+/// Whether an item is a Revoke, which can leave an object as it is.
+fn is_revoke(recording: &Recording<'_, '_>, touch: Touch) -> bool {
+    match asked_by(recording, touch) {
+        Some(asked) => is_idle_at_times(asked),
+        None => false,
+    }
+}
+
+/// Whether an item is a Revoke for a reason other than a compromise.
+fn is_deactivating(recording: &Recording<'_, '_>, touch: Touch) -> bool {
+    match asked_by(recording, touch) {
+        Some(Asked::Revoke(revoke)) => revoke.code != 2 && revoke.code != 3,
+        _ => false,
+    }
+}
+
+/// Whether an operation is a Destroy.
+pub(crate) fn is_destroy(asked: &Asked<'_>) -> bool {
+    match asked {
+        Asked::Destroy(_) => true,
+        _ => false,
+    }
+}
+
+/// Whether an operation can be done without changing the object.
+fn is_idle_at_times(asked: &Asked<'_>) -> bool {
+    match asked {
+        Asked::Revoke(_) => true,
+        _ => false,
+    }
+}
+
+/// Whether the item at a place makes the object.
+fn is_maker(recording: &Recording<'_, '_>, touches: &[Touch], place: usize) -> bool {
+    match touches.get(place) {
+        Some(touch) => match recording.calls.get(touch.call) {
+            Some(call) => match call.request.items.get(touch.item) {
+                Some(ask) => made_by(ask).is_some(),
+                None => false,
+            },
+            None => false,
+        },
+        None => false,
     }
 }
 
@@ -187,10 +373,18 @@ fn effect_of(recording: &Recording<'_, '_>, touch: Touch) -> Effect {
 
 fn effect_at(call: &Call<'_>, item: usize) -> Effect {
     let Some(response) = &call.response else {
-        return Effect::Maybe;
+        return open_effect(call, item);
     };
     match (call.request.items.get(item), response.items.get(item)) {
         (Some(ask), Some(answer)) if answer.status == Status::Success => done(&ask.asked),
+        _ => Effect::None,
+    }
+}
+
+/// What an item of an open call may do.
+fn open_effect(call: &Call<'_>, item: usize) -> Effect {
+    match call.request.items.get(item) {
+        Some(ask) if made_by(ask).is_some() || is_changer(&ask.asked) => Effect::Maybe,
         _ => Effect::None,
     }
 }

@@ -1,12 +1,14 @@
 //! What open calls do, as nodes and edges of the graph: where two lives want otherwise, their edges contradict.
 
 use crate::choices::{Done, Wish};
-use crate::items::{Items, Touch};
-use crate::openings::made_by;
-use crate::stories::{Recording, Story};
+use crate::hidden::{is_about_held, is_setting};
+use crate::items::{Items, Part, Touch};
+use crate::openings::{is_bound, is_changer, made_by, named_id};
+use crate::stories::{Group, Recording, Story, is_destroy};
 use crate::times::Time;
 use kmipa_check::Call;
 use kmipa_msgs::{Ask, BatchOption};
+use kmipa_ops::{Effect, row_of};
 use std::alloc::{AllocError, Global};
 
 /// Two nodes at a Time Stamp: what comes between them has it.
@@ -41,6 +43,8 @@ pub struct Switches {
     fences: Vec<Fence>,
     claims: Vec<Claim>,
     gates: Vec<Gate>,
+    /// The objects from this number on nothing shows.
+    unseen: usize,
     /// The edges that they have in any case.
     pub edges: Vec<Wish>,
 }
@@ -52,27 +56,27 @@ impl Switches {
             fences: Vec::new(alloc),
             claims: Vec::new(alloc),
             gates: Vec::new(alloc),
+            unseen: usize::MAX,
             edges: Vec::new(alloc),
         }
     }
 
     /// Those of the open calls among these, whose nodes are added to the times of all.
-    pub(crate) fn of(
+    pub(crate) fn of<'b, 'a>(
         alloc: Global,
-        calls: &[Call<'_>],
-        items: &Items<'_>,
+        calls: &'b [Call<'a>],
+        items: &Items<'b>,
         times: &mut Vec<Time>,
     ) -> Result<Switches, AllocError> {
         let mut switches = Switches::none(alloc);
+        switches.unseen = items.known;
         let mut dates = Vec::new(alloc);
         for touch in &items.touches {
             if let Some(ask) = open_ask(calls, *touch) {
                 if made_by(ask).is_some() {
                     switches.add_claim(times, *touch)?;
                 }
-                if let Some(date) = date_left(items, *touch, ask) {
-                    dates.push(date)?;
-                }
+                push_dates(items, *touch, ask, &mut dates)?;
             }
         }
         switches.claims.sort_unstable();
@@ -82,8 +86,9 @@ impl Switches {
             switches.add_fence(times, *date)?;
         }
         for (place, call) in calls.iter().enumerate() {
-            if call.end.is_none() && call.request.items.len() > 1 {
+            if call.end.is_none() && is_bound(call) {
                 switches.add_gates(times, place, call)?;
+                switches.close_gates(items, place, call)?;
             }
         }
         Ok(switches)
@@ -118,8 +123,8 @@ impl Switches {
             _ => call.request.items.len(),
         };
         for item in 0..count {
-            let low = new_node(times, i64::MIN, i64::MAX)?;
             let high = new_node(times, i64::MIN, i64::MAX)?;
+            let low = new_node(times, i64::MIN, i64::MAX)?;
             if call.request.option == BatchOption::Stop && item > 0 {
                 self.add_before(low, high)?;
             }
@@ -146,6 +151,46 @@ impl Switches {
             })?;
         }
         Ok(())
+    }
+
+    /// Whether nothing shows an object.
+    pub(crate) fn is_unseen(&self, object: usize) -> bool {
+        object >= self.unseen
+    }
+
+    /// Closes the gates of items that can't be done.
+    fn close_gates<'b, 'a>(
+        &mut self,
+        items: &Items<'b>,
+        place: usize,
+        call: &'b Call<'a>,
+    ) -> Result<(), AllocError> {
+        let mut is_held = false;
+        for (item, ask) in call.request.items.iter().enumerate() {
+            if !is_possible(items, ask, is_held) {
+                if let Some(gate) = self.gate(place, item, call.request.option) {
+                    self.edges.push(gate.is_done().turned())?;
+                }
+            }
+            is_held = is_held || is_setting(&ask.asked);
+        }
+        Ok(())
+    }
+
+    /// What is wished where the items of a group are done that need not be.
+    pub(crate) fn gate_of(
+        &self,
+        recording: &Recording<'_, '_>,
+        story: &Story<'_>,
+        group: Group,
+    ) -> Option<Wish> {
+        if !group.is_asked {
+            return None;
+        }
+        let call = recording.calls.get(group.call)?;
+        let last = story.touches.get(group.to.wrapping_sub(1))?;
+        let gate = self.gate(group.call, last.item, call.request.option)?;
+        Some(gate.is_done())
     }
 
     fn gate(&self, call: usize, item: usize, option: BatchOption) -> Option<Gate> {
@@ -184,21 +229,80 @@ impl Switches {
             };
             let gate = self.gate(touch.call, touch.item, call.request.option);
             if story.is_done(chain, place) {
-                let date = story.shown.date_left(&ask.asked);
-                done.push(Done {
-                    call: touch.call,
-                    item: touch.item,
-                    object: touch.object,
-                    date,
-                })?;
+                let date = story.date_left(recording, chain, ask);
+                if !story.is_unseen && is_deed(ask) {
+                    done.push(Done {
+                        call: touch.call,
+                        item: touch.item,
+                        object: touch.object,
+                        date,
+                    })?;
+                }
                 self.wish_date(*touch, date, wishes)?;
                 self.wish_claim(*touch, wishes)?;
                 wish_gate(gate, true, wishes)?;
-            } else if story.is_settled(chain, *touch, ask) {
+            } else if story.is_settled(chain, place, ask) {
                 wish_gate(gate, false, wishes)?;
+            } else {
+                self.wish_unclaimed(*touch, wishes)?;
             }
         }
         Ok(())
+    }
+
+    /// Wishes the node of an object that nothing shows before that of one that the same item didn't bring.
+    fn wish_unclaimed(&self, touch: Touch, wishes: &mut Vec<Wish>) -> Result<(), AllocError> {
+        let rivals = self.rivals(touch);
+        let own = rivals.iter().find(|claim| claim.object == touch.object);
+        if let (Some(own), Some(last)) = (own, rivals.last()) {
+            if last.object >= self.unseen && own.object < self.unseen {
+                wishes.push(Wish {
+                    from: last.node,
+                    to: own.node,
+                })?;
+            }
+        }
+        Ok(())
+    }
+
+    /// The objects that an item may have brought, that which nothing shows last.
+    fn rivals(&self, touch: Touch) -> &[Claim] {
+        let key = (touch.call, touch.item);
+        let from = self.claims.partition_point(|c| (c.call, c.item) < key);
+        let to = self.claims.partition_point(|c| (c.call, c.item) <= key);
+        self.claims.get(from..to).unwrap_or(&[])
+    }
+
+    /// What is wished where an object that nothing shows isn't there: by each object that its maker may have brought, or since the maker
+    /// wasn't done.
+    pub(crate) fn absences(
+        &self,
+        alloc: Global,
+        recording: &Recording<'_, '_>,
+        story: &Story<'_>,
+    ) -> Result<Vec<Wish>, AllocError> {
+        let mut wishes = Vec::new(alloc);
+        let own = story.touches.iter().find(|touch| touch.part == Part::Means);
+        let Some(touch) = own else {
+            return Ok(wishes);
+        };
+        let rivals = self.rivals(*touch);
+        if let Some(own) = rivals.last() {
+            for rival in rivals {
+                if rival.object < self.unseen {
+                    wishes.push(Wish {
+                        from: rival.node,
+                        to: own.node,
+                    })?;
+                }
+            }
+        }
+        if let Some(call) = recording.calls.get(touch.call) {
+            if let Some(gate) = self.gate(touch.call, touch.item, call.request.option) {
+                wishes.push(gate.is_done().turned())?;
+            }
+        }
+        Ok(wishes)
     }
 
     /// Wishes a call between the nodes of a date.
@@ -226,10 +330,7 @@ impl Switches {
 
     /// Wishes the node of an object before those of all others that the same item may have brought.
     fn wish_claim(&self, touch: Touch, wishes: &mut Vec<Wish>) -> Result<(), AllocError> {
-        let key = (touch.call, touch.item);
-        let from = self.claims.partition_point(|c| (c.call, c.item) < key);
-        let to = self.claims.partition_point(|c| (c.call, c.item) <= key);
-        let rivals = self.claims.get(from..to).unwrap_or(&[]);
+        let rivals = self.rivals(touch);
         if let Some(own) = rivals.iter().find(|claim| claim.object == touch.object) {
             for rival in rivals {
                 if rival.object != touch.object {
@@ -244,21 +345,41 @@ impl Switches {
     }
 }
 
+impl Gate {
+    /// What is wished where its item is done.
+    fn is_done(self) -> Wish {
+        Wish {
+            from: self.low,
+            to: self.high,
+        }
+    }
+}
+
 fn wish_gate(gate: Option<Gate>, is_done: bool, wishes: &mut Vec<Wish>) -> Result<(), AllocError> {
     if let Some(gate) = gate {
-        wishes.push(if is_done {
-            Wish {
-                from: gate.low,
-                to: gate.high,
-            }
-        } else {
-            Wish {
-                from: gate.high,
-                to: gate.low,
-            }
-        })?;
+        let wish = gate.is_done();
+        wishes.push(if is_done { wish } else { wish.turned() })?;
     }
     Ok(())
+}
+
+/// Whether an item makes or changes an object.
+fn is_deed(ask: &Ask<'_>) -> bool {
+    made_by(ask).is_some() || is_changer(&ask.asked)
+}
+
+/// Whether an item of an open call can be done at all, by whether the ID Placeholder is set ahead of it.
+fn is_possible<'b, 'a>(items: &Items<'b>, ask: &'b Ask<'a>, is_held: bool) -> bool {
+    if let Effect::Unread = row_of(&ask.asked).effect {
+        return false;
+    }
+    if is_about_held(&ask.asked) {
+        return is_held;
+    }
+    match named_id(&ask.asked) {
+        Some(id) => items.has(id),
+        None => true,
+    }
 }
 
 /// The item of an open call.
@@ -270,11 +391,23 @@ pub(crate) fn open_ask<'b, 'a>(calls: &'b [Call<'a>], touch: Touch) -> Option<&'
     }
 }
 
-fn date_left(items: &Items<'_>, touch: Touch, ask: &Ask<'_>) -> Option<i64> {
-    match items.objects.get(touch.object) {
-        Some(known) => known.shown.date_left(&ask.asked),
-        None => None,
+/// Adds the dates that the success of an item may have left.
+fn push_dates(
+    items: &Items<'_>,
+    touch: Touch,
+    ask: &Ask<'_>,
+    dates: &mut Vec<i64>,
+) -> Result<(), AllocError> {
+    let Some(known) = items.objects.get(touch.object) else {
+        return Ok(());
+    };
+    if let Some(date) = known.shown.date_left(&ask.asked) {
+        dates.push(date)?;
     }
+    if let (true, Some(date)) = (is_destroy(&ask.asked), known.shown.deactivation) {
+        dates.push(date)?;
+    }
+    Ok(())
 }
 
 /// A node that is no call, at these Time Stamps; and answers its number.

@@ -6,7 +6,8 @@ ghost use Rattle.kmipa_store.specs.Choices.{IsSound};
 use crate::answering::answer_of;
 use crate::hidden::is_hidden;
 use crate::items::{Part, Touch};
-use crate::stories::{Recording, Story};
+use crate::openings::{is_changer, made_by};
+use crate::stories::{Recording, Story, is_destroy};
 use crate::times::time_at;
 use kmipa_batch::is_unordered;
 use kmipa_msgs::{Answer, Ask, Asked, Rules, Status};
@@ -246,13 +247,40 @@ fn take_open<L: Ledger>(
     ensures marks { (L.state ledger.new).marks ≡ (L.state ledger.old).marks }
     ensures sound { OnOk result (IsSound (L.state ledger.new).now) }
 {
-    let stamp = match story.shown.date_left(&ask.asked) {
+    if made_by(ask).is_none() && !is_changer(&ask.asked) {
+        return Ok(is_read(ledger, story.id, ask));
+    }
+    let stamp = match date_behind(ledger, story, ask) {
         Some(date) => date,
         None => ledger.moment().max(time_at(&recording.times, call).stamp),
     };
     ledger.set_moment(stamp);
     let answer = answer_of(ask, story.id, Status::Success);
     take_item(alloc, ledger, &recording.rules, story.id, ask, &answer)
+}
+
+/// The date that the success of an item leaves on the object as it is, as far as one is shown: a Destroy also deactivates.
+fn date_behind<L: Ledger>(ledger: &L, story: &Story<'_>, ask: &Ask<'_>) -> Option<i64> {
+    let date = story.shown.date_left(&ask.asked);
+    match life_of(ledger, story.id) {
+        Some(life) if date.is_none() && is_destroy(&ask.asked) => {
+            if life.deactivation == story.shown.deactivation {
+                None
+            } else {
+                story.shown.deactivation
+            }
+        }
+        _ => date,
+    }
+}
+
+/// Whether the object is there to be read.
+fn is_read<L: Ledger>(ledger: &L, id: &str, ask: &Ask<'_>) -> bool {
+    match (life_of(ledger, id), &ask.asked) {
+        (Some(life), Asked::Get(_)) => life.destroy.is_none(),
+        (Some(_), _) => true,
+        (None, _) => false,
+    }
 }
 
 fn take_item<L: Ledger>(

@@ -48,7 +48,7 @@ pub fn propose_turns<'x, 'a>(
     let mut times = all_times_of(alloc, calls)?;
     let mut items = Items::of(alloc, calls, declaration)?;
     if is_open {
-        add_openings(alloc, &mut items, calls)?;
+        add_openings(alloc, &mut items, calls, &times)?;
     }
     let switches = Switches::of(alloc, calls, &items, &mut times)?;
     let recording = Recording {
