@@ -35,3 +35,4 @@ pub mod TakenLemmas
 pub mod NotedLemmas
 pub mod PartLemmas
 pub mod RefutedLemmas
+pub mod MomentLemmas

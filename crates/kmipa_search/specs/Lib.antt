@@ -25,3 +25,4 @@ pub mod Settled
 pub mod Stills
 pub mod Ends
 pub mod ByObject
+pub mod ByMoments

@@ -109,11 +109,15 @@ fn turns_along<'b, 'a, L: Ledger>(
 
 /// The Time Stamp of a turn behind one of this stamp.
 fn stamp_at(call: &Call, proposed: &Proposed<'_>, before: i64) -> i64 {
-    match (&call.response, proposed.deeds.first()) {
-        (Some(response), _) => response.stamp,
-        (None, Some(deed)) => deed.date.unwrap_or(before),
-        (None, None) => before,
+    if let Some(response) = &call.response {
+        return response.stamp;
     }
+    for deed in &proposed.deeds {
+        if let Some(date) = deed.date {
+            return date;
+        }
+    }
+    before
 }
 
 /// The least Time Stamp of the calls that have ended.

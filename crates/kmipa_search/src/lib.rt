@@ -3,6 +3,7 @@
 
 mod accepted;
 mod by_lives;
+mod by_moments;
 mod by_object;
 mod by_turns;
 mod candidate;

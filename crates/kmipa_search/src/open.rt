@@ -2,6 +2,7 @@
 
 mod answer;
 mod call;
+mod dates;
 mod descent;
 mod due;
 mod identifiers;
@@ -14,5 +15,6 @@ mod tables;
 mod turns;
 
 pub use answer::spelling_of;
+pub use dates::dates_left;
 pub use descent::find_turns;
 pub use tables::Tables;

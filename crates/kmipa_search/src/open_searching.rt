@@ -9,6 +9,7 @@ ghost use Rattle.kmipa_search.specs.Candidates.{AreNotPlain};
 ghost use Rattle.kmipa_search.specs.Guessing.{AreAllRecorded};
 ghost use Rattle.kmipa_search.specs.Found.{Searches};
 
+use crate::by_moments::{kept_steps, or_at_moments};
 use crate::by_object::or_refuted;
 use crate::by_turns::search_by_turns;
 use crate::check_laws::check_laws;
@@ -57,6 +58,26 @@ pub fn search_open<W: Watch>(
 
 /// The same of calls that were read of the transcript before, and that stay the caller's.
 pub fn search_open_calls<W: Watch>(
+    alloc: Global,
+    transcript: &Transcript,
+    declaration: &Declaration,
+    calls: &[Call],
+    budget: u64,
+    watch: &mut W,
+) -> Result<Found, CheckFault>
+    requires declared { AreDeclared (declaration_of declaration.now) }
+    requires each { All (IsRecorded (transcript_of transcript.now)) (map call_of calls.now) }
+    ensures { AreRecorded (transcript_of transcript.now)
+        → AreCalls (transcript_of transcript.now) (map call_of calls.now)
+        → Searches (transcript_of transcript.now) (declaration_of declaration.now) budget result }
+{
+    let kept = kept_steps(declaration, calls, budget);
+    let answered = search_stamped(alloc, transcript, declaration, calls, kept, watch);
+    or_at_moments(alloc, transcript, declaration, calls, budget, answered)
+}
+
+/// The same where each call is taken at its Time Stamp.
+fn search_stamped<W: Watch>(
     alloc: Global,
     transcript: &Transcript,
     declaration: &Declaration,

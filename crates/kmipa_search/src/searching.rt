@@ -16,6 +16,7 @@ ghost use Rattle.kmipa_search.specs.Confirming.{Confirms, IsTried, turns_at};
 
 use crate::accepted::{accepted_order, witness_at};
 use crate::by_lives::search_by_lives;
+use crate::by_moments::{kept_steps, or_at_moments};
 use crate::by_object::{or_refuted, search_by_object};
 use crate::by_turns::search_by_turns;
 use crate::candidate::Candidate;
@@ -46,7 +47,8 @@ use std::alloc::Global;
 /// ledger, and checked: mostly it is the one that is found, and the calls are taken once. Where it isn't, and the first 1,000 steps don't end the
 /// search, the lives of the objects propose an order: where a check accepts it, it is found with those steps and one more for each call.
 /// Where it doesn't, the objects are searched one by one: where one has no order of its own, it refutes the calls. So they are where a search of
-/// calls gives up that aren't all plain. Where the declaration has a tolerance no object is searched.
+/// calls gives up that aren't all plain. Where the declaration has a tolerance no object is searched; and where no witness is found at the Time
+/// Stamps, two orders are tried at other moments, one step for each call that is taken.
 /// Where some call waits for payloads, is open or has no order, and the first 1,000 steps find nothing, the lives propose turns as well: each
 /// payload as the objects stand at its own place, and with the identifier that a later answer of its batch shows.
 pub fn search(
@@ -80,6 +82,26 @@ pub fn search_watched<W: Watch>(
 
 /// The same of calls that were read of the transcript before, and that stay the caller's.
 pub fn search_calls<W: Watch>(
+    alloc: Global,
+    transcript: &Transcript,
+    declaration: &Declaration,
+    calls: &[Call],
+    budget: u64,
+    watch: &mut W,
+) -> Result<Found, CheckFault>
+    requires declared { AreDeclared (declaration_of declaration.now) }
+    requires each { All (IsRecorded (transcript_of transcript.now)) (map call_of calls.now) }
+    ensures { AreRecorded (transcript_of transcript.now)
+        → AreCalls (transcript_of transcript.now) (map call_of calls.now)
+        → Searches (transcript_of transcript.now) (declaration_of declaration.now) budget result }
+{
+    let kept = kept_steps(declaration, calls, budget);
+    let answered = search_stamped(alloc, transcript, declaration, calls, kept, watch);
+    or_at_moments(alloc, transcript, declaration, calls, budget, answered)
+}
+
+/// The same where each call is taken at its Time Stamp.
+fn search_stamped<W: Watch>(
     alloc: Global,
     transcript: &Transcript,
     declaration: &Declaration,

@@ -55,7 +55,7 @@ impl<'b, 'a> OpenCall<'b, 'a> {
 }
 
 /// What the success of an item leaves, if it leaves anything.
-fn event_of(ask: &Ask) -> Option<Event> {
+pub fn event_of(ask: &Ask) -> Option<Event> {
     match row_of(&ask.asked).effect {
         Effect::Makes(_) => Some(Event::Made),
         Effect::Changes(change) => Some(event_left(change)),
