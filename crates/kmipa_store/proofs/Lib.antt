@@ -15,6 +15,7 @@ pub mod SoundLedgerLemmas
 pub mod BearerLemmas
 pub mod NameLemmas
 pub mod LiveNameLemmas
+pub mod FeatureLemmas
 pub mod DueLemmas
 pub mod ClockLemmas
 pub mod AwaitLemmas

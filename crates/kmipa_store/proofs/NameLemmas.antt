@@ -57,7 +57,7 @@ both_equal Greater b e = let bad : ⊥ = cc in absurd bad
 number_same : (a b : ℕ) → nat_cmp a b ≡ Equal → a ≡ b
 number_same a b e = ranked a b Equal (sym e)
 
-named_same : (hash p s : ℕ) (x : Named) → named_cmp (hash, p, s) x ≡ Equal → (hash ≡ x.0) × (p ≡ x.1) × (s ≡ x.2)
+pub named_same : (hash p s : ℕ) (x : Named) → named_cmp (hash, p, s) x ≡ Equal → (hash ≡ x.0) × (p ≡ x.1) × (s ≡ x.2)
 named_same hash p s x e =
     let a = both_equal (ordering_then (nat_cmp hash x.0) (nat_cmp p x.1)) (nat_cmp s x.2) e in
     let b = both_equal (nat_cmp hash x.0) (nat_cmp p x.1) a.0 in

@@ -17,4 +17,5 @@ pub mod Soundness
 pub mod Bearers
 pub mod Names
 pub mod LiveNames
+pub mod Features
 pub mod Tally

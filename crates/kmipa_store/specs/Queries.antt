@@ -1,11 +1,15 @@
--- What a ledger answers of its objects' names and states.
-use Rattle.std.specs.Prelude.{◌&&◌, ◌==◌, ℕ, ℤ, Bool, List, Option, option_map, bytes_eq, slice_get, drop}
+-- What a ledger answers of its objects' names, of what else they are and have, and of their states.
+use Rattle.std.specs.Prelude.{◌&&◌, ◌==◌, ℕ, ℤ, Bool, false, List, Option, Some, None, option_map, bytes_eq, slice_get, drop}
 use Rattle.std.specs.List.{list_any, position_from}
+use Rattle.std.specs.Ordering.{int_eq}
+use Rattle.kmipa_attrs.specs.ObjectTypes.{type_number}
 use Rattle.kmipa_attrs.specs.Sets.{NameOf}
 use Rattle.kmipa_object.specs.Inventory.{live}
-use Rattle.kmipa_object.specs.Life.{state}
+use Rattle.kmipa_object.specs.Life.{state, state_number}
 use Rattle.kmipa_object.specs.declared.state.State.{State}
 use Rattle.kmipa_store.specs.Ledger.{Held}
+use Rattle.kmipa_store.specs.declared.feature.Feature.{Feature}
+use Rattle.kmipa_store.specs.declared.feature.Feature.TheVariants.{Live, State as InState, Kind, Algorithm, Length}
 
 -- a name of this value and this type
 abbrev pub is_name : List ℕ → ℕ → NameOf → Bool
@@ -30,6 +34,27 @@ next_live_named value kind from objects = position_from (has_name_alive value ki
 -- an object without a Destroy Date has the name
 abbrev pub any_live_named : List ℕ → ℕ → List Held → Bool
 any_live_named value kind objects = list_any (has_name_alive value kind) objects
+
+-- a number is there, and is this one; and so a length
+abbrev pub has_number : Option ℕ → ℕ → Bool
+has_number None number = false
+has_number (Some own) number = own == number
+
+abbrev pub has_length : Option ℤ → ℤ → Bool
+has_length None bits = false
+has_length (Some own) bits = int_eq own bits
+
+-- the object has the feature at a moment
+abbrev pub has_feature : Feature → ℤ → Held → Bool
+has_feature Live t h = live h.card
+has_feature (InState number) t h = number == state_number (state h.card.dates t)
+has_feature (Kind number) t h = number == type_number h.card.kind
+has_feature (Algorithm number) t h = has_number h.card.given.algorithm number
+has_feature (Length bits) t h = has_length h.card.given.length bits
+
+-- the first place from this one on whose object has the feature
+abbrev pub next_with : Feature → ℤ → ℕ → List Held → Option ℕ
+next_with feature t from objects = position_from (has_feature feature t) from (drop from objects)
 
 -- the state that the dates of the object at a place say at a moment, where there is one
 abbrev pub state_of_place : List Held → ℕ → ℤ → Option State

@@ -1,12 +1,16 @@
 //! States told at one moment, and the dates at which they change.
 
-ghost use Rattle.std.specs.Prelude.{◌≡◌, length};
+ghost use Rattle.std.specs.Prelude.{◌≡◌, ◌<◌, false, length, IfSome};
 ghost use Rattle.std.specs.Int.{int_min};
 ghost use Rattle.kmipa_object.specs.Lists.{updated};
 ghost use Rattle.kmipa_store.specs.Clock.{Awaits, looked, states_at};
+ghost use Rattle.kmipa_store.specs.Features.{is_lasting};
+ghost use Rattle.kmipa_store.specs.Queries.{next_with};
 
 use crate::fault::StoreFault;
+use crate::feature::Feature;
 use crate::objects::Objects;
+use crate::states::States;
 use kmipa_object::{Life, State, state_at};
 use std::alloc::Global;
 use std::collections::BTreeSet;
@@ -26,7 +30,7 @@ use std::ops::Bound;
 #[derive(Drop)]
 pub struct Clock {
     moment: i64,
-    states: Vec<State>,
+    states: States,
     due: BTreeSet<(i64, usize)>,
     floor: i64,
 }
@@ -44,7 +48,7 @@ impl Model for Clock {
 
     ghost Value = { Time };
 
-    ghost view = { λ c. record { moment = c.moment; states = c.states.items; due = record { floor = c.floor; keys = c.due.keys } } };
+    ghost view = { λ c. record { moment = c.moment; states = c.states; due = record { floor = c.floor; keys = c.due.keys } } };
 }
 
 impl Clock {
@@ -59,7 +63,7 @@ impl Clock {
     {
         Clock {
             moment: 0,
-            states: Vec::new(alloc),
+            states: States::new(alloc),
             due: BTreeSet::new(alloc),
             floor: i64::MIN,
         }
@@ -77,7 +81,24 @@ impl Clock {
         requires { place < length self.now.states }
         ensures { slice_get self.now.states place ≡ Some result }
     {
-        self.states[place]
+        self.states.at(place)
+    }
+
+    /// The first place from this one on whose object has this feature, one that doesn't last, at the moment.
+    pub fn next_with(&self, objects: &Objects, feature: Feature, from: usize) -> Option<usize>
+        requires told { self.now.states ≡ states_at objects.now self.now.moment }
+        requires passing { is_lasting feature ≡ false }
+        ensures place { result ≡ next_with feature self.now.moment from objects.now }
+        ensures within { IfSome result (λ place. place < length objects.now) }
+    {
+        self.states.next(objects, feature, self.moment, from)
+    }
+
+    /// Makes `next_with` quick, where there are many objects and there is memory for it.
+    pub fn prepare(&mut self)
+        ensures { self.new ≡ self.old }
+    {
+        self.states.prepare();
     }
 
     /// Another moment: the objects with a date between the two are looked at again, or each where one of the two is below the floor.
@@ -105,7 +126,7 @@ impl Clock {
         } }
     {
         let told = state_at(&life, self.moment);
-        put_state(&mut self.states, place, told);
+        self.states.set(place, told);
     }
 
     /// The dates of a life are waited for from now on, and what they brought is the answer.
@@ -144,9 +165,9 @@ impl Clock {
         let brought = self.note(place, life)?;
         match self.states.push(state_at(&life, self.moment)) {
             Ok(()) => Ok(brought),
-            Err(_) => {
+            Err(fault) => {
                 self.forget(place, brought);
-                Err(StoreFault::Memory)
+                Err(fault)
             }
         }
     }
@@ -159,7 +180,7 @@ impl Clock {
           due = without self.old.due place brought;
         } }
     {
-        let _ = self.states.pop();
+        self.states.pop();
         self.forget(place, brought);
     }
 
@@ -195,26 +216,26 @@ impl Clock {
 }
 
 /// Tells the state of each object anew.
-fn tell_each(states: &mut Vec<State>, objects: &Objects, t: i64)
-    requires { length states.old.items ≡ length objects.now }
-    ensures { states.new.items ≡ states_at objects.now t }
+fn tell_each(states: &mut States, objects: &Objects, t: i64)
+    requires { length states.old ≡ length objects.now }
+    ensures { states.new ≡ states_at objects.now t }
 {
     for place in 0..objects.len() {
-        put_state(states, place, objects.state(place, t));
+        states.set(place, objects.state(place, t));
     }
 }
 
 /// Tells anew the states of the objects with a date above the smaller of two moments and at most the greater.
 fn look_over(
-    states: &mut Vec<State>,
+    states: &mut States,
     due: &BTreeSet<(i64, usize)>,
     objects: &Objects,
     before: i64,
     t: i64,
 )
-    requires told { states.old.items ≡ states_at objects.now before }
+    requires told { states.old ≡ states_at objects.now before }
     requires awaited { Awaits objects.now (record { floor = int_min before t; keys = due.now.keys }) }
-    ensures { states.new.items ≡ states_at objects.now t }
+    ensures { states.new ≡ states_at objects.now t }
 {
     let behind = objects.len();
     let start = Bound::Excluded((before.min(t), behind));
@@ -225,19 +246,10 @@ fn look_over(
 }
 
 /// Tells the state of the object at a place anew, if there is one.
-fn look_again(states: &mut Vec<State>, objects: &Objects, place: usize, t: i64)
-    ensures { states.new.items ≡ looked objects.now states.old.items place t }
+fn look_again(states: &mut States, objects: &Objects, place: usize, t: i64)
+    ensures { states.new ≡ looked objects.now states.old place t }
 {
     if place < objects.len() {
-        put_state(states, place, objects.state(place, t));
-    }
-}
-
-/// Writes a state at a place, if one stands there.
-fn put_state(states: &mut Vec<State>, place: usize, state: State)
-    ensures { states.new.items ≡ updated states.old.items place (λ _. state) }
-{
-    if place < states.len() {
-        states[place] = state;
+        states.set(place, objects.state(place, t));
     }
 }

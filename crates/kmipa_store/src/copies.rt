@@ -1,6 +1,7 @@
 //! A ledger of which each mark is a whole copy.
 
 use crate::fault::StoreFault;
+use crate::feature::Feature;
 use crate::ledger::{Ledger, Mark};
 use crate::objects::Objects;
 use crate::secrets::{Lesson, Secrets};
@@ -73,6 +74,12 @@ impl Ledger for Copies {
     fn any_live_named(&self, value: &str, kind: u32) -> bool {
         self.objects.any_live_named(value, kind)
     }
+
+    fn next_with(&self, feature: Feature, from: usize) -> Option<usize> {
+        self.objects.next_with(feature, self.moment, from)
+    }
+
+    fn prepare(&mut self, _feature: Feature) {}
 
     fn moment(&self) -> i64 {
         self.moment

@@ -10,6 +10,7 @@ use crate::changes::{
     set_life, tell_secret,
 };
 use crate::fault::StoreFault;
+use crate::feature::Feature;
 use crate::ledger::{Ledger, Mark};
 use crate::present::Present;
 use crate::secrets::{Lesson, Secrets};
@@ -97,6 +98,14 @@ impl Ledger for Journal {
 
     fn any_live_named(&self, value: &str, kind: u32) -> bool {
         self.present.any_live_named(value, kind)
+    }
+
+    fn next_with(&self, feature: Feature, from: usize) -> Option<usize> {
+        self.present.next_with(feature, from)
+    }
+
+    fn prepare(&mut self, feature: Feature) {
+        self.present.prepare(feature);
     }
 
     fn moment(&self) -> i64 {

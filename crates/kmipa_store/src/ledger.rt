@@ -1,6 +1,7 @@
 //! What every ledger promises.
 
 use crate::fault::StoreFault;
+use crate::feature::Feature;
 use kmipa_object::{Life, Object, Rule, SecretNo, State};
 
 /// A place in the history of a ledger. It must be spent, by `keep`, `undo` or `back`, the newest first.
@@ -23,7 +24,7 @@ pub trait Ledger {
     ghost use Rattle.std.specs.Prelude.{◌≡◌, ◌<◌, ℤ, length, slice_get, Some, IfSome, option_map};
     ghost use Rattle.kmipa_store.specs.Ledger.{LedgerState, held, cards_of, place_of, bytes_at, kept, undone, gone_back};
     ghost use Rattle.kmipa_store.specs.Calls.{Adds, Replaces, MakesSecret, Learns, SetsMark};
-    ghost use Rattle.kmipa_store.specs.Queries.{state_of_place, next_live_named, next_named, any_live_named};
+    ghost use Rattle.kmipa_store.specs.Queries.{state_of_place, next_live_named, next_named, next_with, any_live_named};
 
     /// Its objects, secrets and marks.
     ghost state: { Self → LedgerState };
@@ -58,6 +59,16 @@ pub trait Ledger {
     /// Whether an object without a Destroy Date has this name.
     fn any_live_named(&self, value: &str, kind: u32) -> bool
         ensures { result ≡ any_live_named value.now kind (state self.now).now.objects };
+
+    /// The first place from this one on whose object has this feature at the moment.
+    fn next_with(&self, feature: Feature, from: usize) -> Option<usize>
+        ensures place { result ≡ next_with feature (moment self.now) from (state self.now).now.objects }
+        ensures within { IfSome result (λ place. place < length (state self.now).now.objects) };
+
+    /// From now on `next_with` is quick for features like this one, where there are many objects and memory for it. Nothing else changes.
+    fn prepare(&mut self, feature: Feature)
+        ensures meaning { state self.new ≡ state self.old }
+        ensures moment { moment self.new ≡ moment self.old };
 
     /// The moment at which states are told, in seconds since 1970-01-01T00:00:00Z; 0 until it is set.
     fn moment(&self) -> i64

@@ -8,6 +8,7 @@ ghost use Rattle.kmipa_store.specs.Ledger.{held};
 ghost use Rattle.kmipa_store.specs.Queries.{has_name, is_name};
 
 use crate::fault::StoreFault;
+use crate::feature::{Feature, has_feature};
 use crate::slots::Slots;
 use kmipa_attrs::Name;
 use kmipa_object::{Life, Object, State, state_at};
@@ -46,7 +47,7 @@ impl Objects {
     ghost use Rattle.std.specs.Prelude.{◌≡◌, ◌-◌, ◌<◌, [], length, take, slice_get, string_bytes, Some, None, IfSome, IfOk, IfErr};
     ghost use Rattle.kmipa_store.specs.Ledger.{held, cards_of, place_of, relived};
     ghost use Rattle.kmipa_store.specs.Memory.{Pushes};
-    ghost use Rattle.kmipa_store.specs.Queries.{has_name, next_live_named, next_named, any_live_named, state_of_place};
+    ghost use Rattle.kmipa_store.specs.Queries.{has_name, next_live_named, next_named, next_with, any_live_named, state_of_place};
 
     /// No objects.
     pub fn new(alloc: Global) -> Objects
@@ -110,6 +111,19 @@ impl Objects {
     {
         for next in from..self.len() {
             if is_live_named(self.at(next), value, kind) {
+                return Some(next);
+            }
+        }
+        None
+    }
+
+    /// The first place from this one on whose object has this feature at a moment.
+    pub fn next_with(&self, feature: Feature, t: i64, from: usize) -> Option<usize>
+        ensures place { result ≡ next_with feature t from self.now }
+        ensures within { IfSome result (λ place. place < length self.now) }
+    {
+        for next in from..self.len() {
+            if has_feature(self.at(next), feature, t) {
                 return Some(next);
             }
         }

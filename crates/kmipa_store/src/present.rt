@@ -1,28 +1,34 @@
 //! The objects of the present, with their names, their states and their dates.
 
 ghost use Rattle.std.specs.Prelude.{◌-◌, length};
+ghost use Rattle.kmipa_store.specs.Features.{Forgets, KnowsLasting};
 ghost use Rattle.kmipa_store.specs.Names.{KeepsOthers};
 
 use crate::changes::{ObjectChange, Undo};
 use crate::clock::Clock;
 use crate::counted::Counted;
 use crate::fault::StoreFault;
+use crate::feature::Feature;
+use crate::features::Features;
 use crate::names::Names;
 use kmipa_object::{Life, Object, State};
 use std::alloc::Global;
 use std::marker::Model;
 
-/// Objects, counted by their names, an index of these, and a clock that tells the state of each object.
+/// Objects, counted by their names, an index of these, one of what else lasts, and a clock that tells the state of each object.
 #[derive(Drop)]
 pub struct Present {
+    alloc: Global,
     objects: Counted,
     names: Names,
+    features: Features,
     clock: Clock,
 }
 
 impl Model for Present {
     ghost use Rattle.std.specs.Prelude.{◌≡◌};
     ghost use Rattle.kmipa_store.specs.Clock.{states_at};
+    ghost use Rattle.kmipa_store.specs.Features.{KnowsLasting};
     ghost use Rattle.kmipa_store.specs.Names.{Covers};
     ghost use Rattle.kmipa_store.specs.Present.{Standing};
 
@@ -30,14 +36,14 @@ impl Model for Present {
 
     ghost view = { λ p. record { dated = record { objects = p.objects; due = p.clock.due }; moment = p.clock.moment } };
 
-    ghost invariant = { λ p. (p.clock.states ≡ states_at p.objects p.clock.moment) × Covers p.names p.objects };
+    ghost invariant = { λ p. (p.clock.states ≡ states_at p.objects p.clock.moment) × Covers p.names p.objects × KnowsLasting p.features p.objects };
 }
 
 impl Present {
     ghost use Rattle.std.specs.Prelude.{◌≡◌, ◌<◌, ◌++◌, ◌∷◌, [], pos, length, slice_get, string_bytes, Some, None, IfSome};
     ghost use Rattle.kmipa_store.specs.Ledger.{held, cards_of, place_of, relived};
     ghost use Rattle.kmipa_store.specs.Present.{AreAwaited, Makes};
-    ghost use Rattle.kmipa_store.specs.Queries.{next_live_named, next_named, any_live_named, state_of_place};
+    ghost use Rattle.kmipa_store.specs.Queries.{next_live_named, next_named, next_with, any_live_named, state_of_place};
 
     /// No objects, at moment 0.
     pub fn new(alloc: Global) -> Present
@@ -45,8 +51,10 @@ impl Present {
         ensures moment { result.moment ≡ pos 0 }
     {
         Present {
+            alloc,
             objects: Counted::new(alloc),
             names: Names::new(alloc),
+            features: Features::new(alloc),
             clock: Clock::new(alloc),
         }
     }
@@ -100,6 +108,34 @@ impl Present {
         self.names.any_live(self.objects.plain(), value, kind)
     }
 
+    /// The first place from this one on whose object has this feature, at the moment.
+    pub fn next_with(&self, feature: Feature, from: usize) -> Option<usize>
+        ensures place { result ≡ next_with feature self.now.moment from self.now.dated.objects }
+        ensures within { IfSome result (λ place. place < length self.now.dated.objects) }
+    {
+        let objects = self.objects.plain();
+        if feature.is_lasting() {
+            self.features
+                .next(objects, feature, self.clock.moment(), from)
+        } else {
+            self.clock.next_with(objects, feature, from)
+        }
+    }
+
+    /// Makes `next_with` quick, where there are many objects and there is memory for it.
+    pub fn prepare(&mut self, feature: Feature)
+        ensures { self.new ≡ self.old }
+    {
+        if !feature.is_lasting() {
+            self.clock.prepare();
+            return;
+        }
+        if self.features.is_known() {
+            return;
+        }
+        self.features = lasting_of(self.alloc, &self.objects);
+    }
+
     /// The moment of the states, in seconds since 1970-01-01T00:00:00Z.
     pub fn moment(&self) -> i64
         ensures { result ≡ self.now.moment }
@@ -132,7 +168,10 @@ impl Present {
         self.names.note(place, object.given.names.as_slice())?;
         let brought = self.clock.add(place, object.life)?;
         match self.objects.push(object) {
-            Ok(()) => Ok(ObjectChange::Added(brought)),
+            Ok(()) => {
+                self.features.note_object(place, self.objects.at(place));
+                Ok(ObjectChange::Added(brought))
+            }
             Err(fault) => {
                 self.clock.remove(place, brought);
                 Err(fault)
@@ -161,7 +200,7 @@ impl Undo<ObjectChange> for Present {
     fn take_back(&mut self, change: ObjectChange) {
         match change {
             ObjectChange::Added(brought) => {
-                forget_last(&mut self.names, &self.objects);
+                forget_last(&mut self.names, &mut self.features, &self.objects);
                 self.objects.pop();
                 self.clock.remove(self.objects.len(), brought);
             }
@@ -174,11 +213,25 @@ impl Undo<ObjectChange> for Present {
     }
 }
 
-/// Lists the names of the last object no longer, if there is one.
-fn forget_last(names: &mut Names, objects: &Counted)
-    ensures { KeepsOthers names.old (length objects.now - 1) names.new }
+/// Lists the names and the features of the last object no longer, if there is one.
+fn forget_last(names: &mut Names, features: &mut Features, objects: &Counted)
+    ensures names { KeepsOthers names.old (length objects.now - 1) names.new }
+    ensures features { Forgets features.old (length objects.now - 1) features.new }
 {
     if let Some(last) = objects.len().checked_sub(1) {
-        names.forget(last, objects.at(last).given.names.as_slice());
+        let object = objects.at(last);
+        names.forget(last, object.given.names.as_slice());
+        features.forget_object(last, object);
     }
+}
+
+/// Lists of the features that last of these objects; where they are few no lists are begun.
+fn lasting_of(alloc: Global, objects: &Counted) -> Features
+    ensures { KnowsLasting result objects.now }
+{
+    let mut features = Features::begun(alloc, objects.len());
+    for place in 0..objects.len() {
+        features.note_object(place, objects.at(place));
+    }
+    features
 }

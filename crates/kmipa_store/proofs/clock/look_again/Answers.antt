@@ -9,9 +9,9 @@ use Rattle.kmipa_store.proofs.clock.look_again.Goals as goal
 pub returns-then-place-len : goal.returns-then-place-len
 returns-then-place-len c =
     let told = ap (λ (x : ℤ). state_of_place c.args.objects.now c.args.place x) (sym (to_z-of_z w64 c.args.t c.ranges.t)) ∙ c.state.ensures in
-    c.put_state.ensures ∙ sym (looked_told c.args.objects.now c.args.states.now.items c.args.place c.args.t c.state.result told)
+    c.set.ensures ∙ sym (looked_told c.args.objects.now c.args.states.now c.args.place c.args.t c.state.result told)
 
 pub returns-else-place-len : goal.returns-else-place-len
 returns-else-place-len c =
     let past : length c.args.objects.now ≤ c.args.place = let h = c.if-place-len.false in let e = c.len.ensures in omega (arith, h, e) in
-    sym (looked_past c.args.objects.now c.args.states.now.items c.args.place c.args.t (get_past c.args.objects.now c.args.place past))
+    sym (looked_past c.args.objects.now c.args.states.now c.args.place c.args.t (get_past c.args.objects.now c.args.place past))

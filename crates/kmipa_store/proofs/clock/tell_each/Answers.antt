@@ -11,13 +11,13 @@ loop-place-preserved c =
     let hs = c.args.objects.now in
     let t : ℤ = to_z w64 (of_z w64 c.args.t) in
     let place = c.loop-place.place in
-    subst (λ (n : ℕ). ToldTo hs t n c.put_state.new.states.items) (sym (add-one place))
-    (subst (λ (ss : List State). ToldTo hs t (suc place) ss) (sym c.put_state.ensures)
-    (told_next hs t place c.loop-place.states.items c.state.result c.state.ensures c.loop-place.invariant))
+    subst (λ (n : ℕ). ToldTo hs t n c.set.new.self) (sym (add-one place))
+    (subst (λ (ss : List State). ToldTo hs t (suc place) ss) (sym c.set.ensures)
+    (told_next hs t place c.loop-place.states c.state.result c.state.ensures c.loop-place.invariant))
 
 pub returns : goal.returns
 returns c =
     let hs = c.args.objects.now in
     let t : ℤ = to_z w64 (of_z w64 c.args.t) in
     let all : length hs ≤ c.loop-place.place = let h = c.loop-place-test.false in let e = c.len-place-end.ensures in omega (arith, h, e) in
-    told_all hs t c.loop-place.place c.loop-place.states.items all c.loop-place.invariant ∙ ap (states_at hs) (to_z-of_z w64 c.args.t c.ranges.t)
+    told_all hs t c.loop-place.place c.loop-place.states all c.loop-place.invariant ∙ ap (states_at hs) (to_z-of_z w64 c.args.t c.ranges.t)

@@ -9,7 +9,7 @@ use Rattle.kmipa_store.proofs.clock.Clock.note_date.Goals as goal
 
 pub returns-then-fresh : goal.returns-then-fresh
 returns-then-fresh c =
-    let s : Time = record { moment = c.self.inside.moment; states = c.self.inside.states.items; due = record { floor = c.self.inside.floor; keys = c.self.inside.due.keys } } in
+    let s : Time = record { moment = c.self.inside.moment; states = c.self.inside.states; due = record { floor = c.self.inside.floor; keys = c.self.inside.due.keys } } in
     let fits : SFits w64 c.in-Some.date = search rules in
     let date : ℤ = to_z w64 (of_z w64 c.in-Some.date) in
     let is : c.args.date ≡ Some date = c.in-Some.is ∙ ap (λ (x : ℤ). Some x) (sym (to_z-of_z w64 c.in-Some.date fits)) in
@@ -20,7 +20,7 @@ returns-then-fresh c =
 
 pub returns : goal.returns
 returns c =
-    let s : Time = record { moment = c.self.inside.moment; states = c.self.inside.states.items; due = record { floor = c.self.inside.floor; keys = c.self.inside.due.keys } } in
+    let s : Time = record { moment = c.self.inside.moment; states = c.self.inside.states; due = record { floor = c.self.inside.floor; keys = c.self.inside.due.keys } } in
     let fits : SFits w64 c.in-Some.date = search rules in
     let date : ℤ = to_z w64 (of_z w64 c.in-Some.date) in
     let is : c.args.date ≡ Some date = c.in-Some.is ∙ ap (λ (x : ℤ). Some x) (sym (to_z-of_z w64 c.in-Some.date fits)) in

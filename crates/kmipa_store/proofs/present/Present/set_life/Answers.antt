@@ -6,6 +6,7 @@ use Rattle.kmipa_store.specs.Ledger.{Held, relived}
 use Rattle.kmipa_store.specs.Names.{Covers}
 use Rattle.kmipa_store.specs.Present.{Makes, Standing}
 use Rattle.kmipa_store.specs.declared.changes.ObjectChange.TheVariants.{Replaced}
+use Rattle.kmipa_store.proofs.FeatureLemmas.{lasts_led}
 use Rattle.kmipa_store.proofs.NameLemmas.{covers_relived}
 use Rattle.kmipa_store.proofs.PresentLemmas.{makes_relived, stand, told_relived}
 use Rattle.kmipa_store.proofs.present.Present.set_life.Goals as goal
@@ -16,6 +17,7 @@ invariant_of-self-2 c =
     let after : Time → Time = λ x. record x { states = updated x.states c.args.place (λ _. state (dates_of c.args.life) x.moment) } in (
       told_relived i.objects c.set_life.new.self c.args.place c.args.life i.clock c.tell.new.self (noted_life i.clock.moment i.clock.due c.args.place c.args.life) c.self.invariant.0 c.set_life.ensures (c.tell.ensures ∙ ap after c.in_ok-brought.ensures.0),
       subst (λ (x : List Held). Covers i.names x) (sym c.set_life.ensures) (covers_relived i.names i.objects c.args.place c.args.life c.self.invariant.1),
+      lasts_led i.features i.objects c.set_life.new.self c.args.place c.args.life c.self.invariant.2 c.set_life.ensures,
     )
 
 pub returns : goal.returns

@@ -2,6 +2,7 @@ use Rattle.std.proofs.Common.{List, ap, sym, ◌∙◌, subst}
 use Rattle.kmipa_store.specs.Clock.{Time, without}
 use Rattle.kmipa_store.specs.Ledger.{Held}
 use Rattle.kmipa_store.specs.Names.{Covers}
+use Rattle.kmipa_store.proofs.FeatureLemmas.{lasts_fewer, lasts_led}
 use Rattle.kmipa_store.proofs.NameLemmas.{covers_popped, covers_relived}
 use Rattle.kmipa_store.proofs.PresentLemmas.{told_popped, told_relived}
 use Rattle.kmipa_store.proofs.present.PresentUndoObjectChange.take_back.Goals as goal
@@ -10,7 +11,8 @@ pub invariant_of-self : goal.invariant_of-self
 invariant_of-self c =
     let i = c.self.inside in (
       told_popped i.objects c.pop.new.self i.clock c.remove.new.self (without i.clock.due c.len.result c.in-Added.brought) c.self.invariant.0 c.pop.ensures c.remove.ensures,
-      subst (λ (x : List Held). Covers c.forget_last.new.names x) (sym c.pop.ensures) (covers_popped i.names c.forget_last.new.names i.objects c.self.invariant.1 c.forget_last.ensures),
+      subst (λ (x : List Held). Covers c.forget_last.new.names x) (sym c.pop.ensures) (covers_popped i.names c.forget_last.new.names i.objects c.self.invariant.1 c.forget_last.ensures.names),
+      lasts_fewer i.features c.forget_last.new.features i.objects c.pop.new.self c.self.invariant.2 c.forget_last.ensures.features c.pop.ensures,
     )
 
 pub invariant_of-self-in-Replaced : goal.invariant_of-self-in-Replaced
@@ -20,4 +22,5 @@ invariant_of-self-in-Replaced c =
     let after : Time → Time = λ x. record x { due = without x.due r.place r.brought } in (
       told_relived i.objects c.set_life.new.self r.place r.life i.clock c.forget.new.self (without i.clock.due r.place r.brought) c.self.invariant.0 c.set_life.ensures (c.forget.ensures ∙ ap after c.tell.ensures),
       subst (λ (x : List Held). Covers i.names x) (sym c.set_life.ensures) (covers_relived i.names i.objects r.place r.life c.self.invariant.1),
+      lasts_led i.features i.objects c.set_life.new.self r.place r.life c.self.invariant.2 c.set_life.ensures,
     )
