@@ -28,3 +28,4 @@ mod TakenLemmas
 mod OneInventoryLemmas
 pub mod AlikeLemmas
 mod ListingLemmas
+mod CandidateLemmas

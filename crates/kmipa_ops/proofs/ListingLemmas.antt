@@ -56,7 +56,7 @@ covered_if : (must listed : Bool) → (must ≡ true → listed ≡ true) → no
 covered_if true listed f = ap not (f refl)
 covered_if false listed f = refl
 
-false_right : (a b : Bool) → b ≡ false → (a && b) ≡ false
+pub false_right : (a b : Bool) → b ≡ false → (a && b) ≡ false
 false_right true b e = e
 false_right false b e = refl
 
@@ -303,14 +303,14 @@ module _ {X : Type 0} (p : X → Bool) where
   later y ys i n is f zero x h at = let same : y ≡ x = cc in ap p (sym same) ∙ is
   later y ys i n is f (suc k) x h at = f k x (omega arith) at
 
-  position_none : (xs : List X) (i : ℕ) → position_from p i xs ≡ None → (k : ℕ) (x : X) → slice_get xs k ≡ Some x → p x ≡ false
+  pub position_none : (xs : List X) (i : ℕ) → position_from p i xs ≡ None → (k : ℕ) (x : X) → slice_get xs k ≡ Some x → p x ≡ false
   position_none [] i e k x at = let bad : ⊥ = cc in absurd bad
   position_none (y ∷ ys) i e zero x at =
       let same : y ≡ x = cc in
       ap p (sym same) ∙ false_if (p y) (λ h. let bad : Some i ≡ None = ap (λ (b : Bool). cond b (Some i) (position_from p (i + 1) ys)) (sym h) ∙ e in cc)
   position_none (y ∷ ys) i e (suc k) x at = position_none ys (i + 1) (behind i y ys None (λ h. let bad : Some i ≡ None = ap (λ (b : Bool). cond b (Some i) (position_from p (i + 1) ys)) (sym h) ∙ e in cc) e) k x at
 
-  position_some : (xs : List X) (i n : ℕ) → position_from p i xs ≡ Some n → (i ≤ n) × ((k : ℕ) (x : X) → i + k < n → slice_get xs k ≡ Some x → p x ≡ false)
+  pub position_some : (xs : List X) (i n : ℕ) → position_from p i xs ≡ Some n → (i ≤ n) × ((k : ℕ) (x : X) → i + k < n → slice_get xs k ≡ Some x → p x ≡ false)
   position_some [] i n e = let bad : ⊥ = cc in absurd bad
   position_some (y ∷ ys) i n e =
       (elim (p y) as (λ b. p y ≡ b → cond b (Some i) (position_from p (i + 1) ys) ≡ Some n → (i ≤ n) × ((k : ℕ) (x : X) → i + k < n → slice_get (y ∷ ys) k ≡ Some x → p x ≡ false)) [
@@ -321,7 +321,7 @@ module _ {X : Type 0} (p : X → Bool) where
             (omega arith, λ k x h at. later y ys i n is (λ j z below there. r.1 j z below there) k x h at)
       ]) refl e
 
-dropped : {X : Type 0} (xs : List X) (from p : ℕ) (x : X) → from ≤ p → slice_get xs p ≡ Some x → (k : ℕ) × (from + k ≡ p) × (slice_get (drop from xs) k ≡ Some x)
+pub dropped : {X : Type 0} (xs : List X) (from p : ℕ) (x : X) → from ≤ p → slice_get xs p ≡ Some x → (k : ℕ) × (from + k ≡ p) × (slice_get (drop from xs) k ≡ Some x)
 dropped xs zero p x h at = (p, omega arith, at)
 dropped [] (suc from) p x h at = let bad : ⊥ = cc in absurd bad
 dropped (y ∷ ys) (suc from) zero x h at = absurd (omega arith)
@@ -333,7 +333,7 @@ no_stranger q s c e =
     ap (λ (b : Bool). not b && not (is_doubtful q c)) says
 
 -- a destroyed object is never to be listed
-destroyed_not : (q : FilterOf) (s : State) (c : Card) → live c ≡ false → must_fit q s c ≡ false
+pub destroyed_not : (q : FilterOf) (s : State) (c : Card) → live c ≡ false → must_fit q s c ≡ false
 destroyed_not q s c gone =
     let rest : Bool = is_unsure q.length c.given.length in
     let doubtful : is_doubtful q c ≡ true = ap (λ (b : Bool). not b || q.is_loose || is_unsure q.algorithm c.given.algorithm || rest) gone in
@@ -346,7 +346,7 @@ loose_not q s c loose =
     let doubtful : is_doubtful q c ≡ true = second_true (not (live c)) q.is_loose (is_unsure q.algorithm c.given.algorithm) rest loose in
     false_right (may_fit q s c) (not (is_doubtful q c)) (ap not doubtful)
 
-lt_or_le : (a b : ℕ) → (a < b) ⊎ (b ≤ a)
+pub lt_or_le : (a b : ℕ) → (a < b) ⊎ (b ≤ a)
 lt_or_le a zero = inr (omega arith)
 lt_or_le zero (suc b) = inl (omega arith)
 lt_or_le (suc a) (suc b) = elim (lt_or_le a b) [ inl h ↦ inl (omega arith) | inr h ↦ inr (omega arith) ]

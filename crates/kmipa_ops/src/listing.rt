@@ -1,6 +1,6 @@
 //! What a Locate lists.
 
-ghost use Rattle.std.specs.Prelude.{◌≡◌, ◌<◌, IfOk, IfSome, find, length, map, pos, not};
+ghost use Rattle.std.specs.Prelude.{◌≡◌, ◌<◌, IfOk, IfSome, find, length, map, nat_lt, pos, not};
 ghost use Rattle.kmipa_attrs.specs.Filters.{filter_of};
 ghost use Rattle.kmipa_object.specs.Inventory.{card_of};
 ghost use Rattle.kmipa_store.specs.Choices.{IsSound};
@@ -15,7 +15,7 @@ use crate::names::lacks_at;
 use crate::places_listed::PlacesListed;
 use crate::why::Why;
 use kmipa_attrs::Filter;
-use kmipa_store::Ledger;
+use kmipa_store::{Feature, Ledger};
 use std::alloc::{AllocError, Global};
 
 /// The lowest reason against what a Locate lists.
@@ -126,22 +126,119 @@ fn leaves_out<L: Ledger>(ledger: &L, filter: &Filter, places: &PlacesListed) -> 
     false
 }
 
-/// The next place from this one on of an object that may be live and have all the filter's names. Each name moves the place on to its next
-/// live bearer, so that a scan has at most as many candidates as the rarest name has of these.
+/// The next place from this one on of an object that may have to be listed. Each thing that is asked for moves the
+/// place on to the next object that has it, so that a scan has at most as many candidates as there are of the rarest.
 fn next_candidate<L: Ledger>(ledger: &L, filter: &Filter, from: usize) -> Option<usize>
     requires { from < length (L.state ledger.now).now.objects }
     ensures next { NextCandidate (L.state ledger.now).now.objects (L.moment ledger.now)
         (filter_of filter.now) from result }
     ensures within { IfSome result (λ place. place < length (L.state ledger.now).now.objects) }
 {
+    let bearer = next_bearer(ledger, filter, from)?;
+    let stated = next_in_state(ledger, filter, bearer)?;
+    let typed = next_of_type(ledger, filter, stated)?;
+    let coded = next_of_algorithm(ledger, filter, typed)?;
+    next_of_length(ledger, filter, coded)
+}
+
+/// The next place from this one on of a live object that has all the filter's names.
+fn next_bearer<L: Ledger>(ledger: &L, filter: &Filter, from: usize) -> Option<usize>
+    requires { from < length (L.state ledger.now).now.objects }
+    ensures next { NextCandidate (L.state ledger.now).now.objects (L.moment ledger.now)
+        (filter_of filter.now) from result }
+    ensures within { IfSome result (λ place. place < length (L.state ledger.now).now.objects) }
+{
+    let names = filter.names.as_slice();
+    if names.is_empty() {
+        return ledger.next_with(Feature::Live, from);
+    }
     let mut place = from;
-    'names: for name in filter.names.as_slice() {
+    'names: for name in names {
         let Some(next) = ledger.next_live_named(name.value.as_str(), name.kind, place) else {
             return None;
         };
         place = next;
     }
     Some(place)
+}
+
+/// The next place from this one on of an object in the state that is asked for; an object that must be listed is in
+/// one of live objects.
+fn next_in_state<L: Ledger>(ledger: &L, filter: &Filter, from: usize) -> Option<usize>
+    requires { from < length (L.state ledger.now).now.objects }
+    ensures next { NextCandidate (L.state ledger.now).now.objects (L.moment ledger.now)
+        (filter_of filter.now) from result }
+    ensures within { IfSome result (λ place. place < length (L.state ledger.now).now.objects) }
+{
+    let Some(number) = filter.state else {
+        return Some(from);
+    };
+    if is_of_none_live(number) {
+        return None;
+    }
+    ledger.next_with(Feature::State(number), from)
+}
+
+/// Whether it is the number of no state of live objects: they have those up to Compromised.
+fn is_of_none_live(number: u32) -> bool
+    ensures { result ≡ nat_lt 4 number }
+{
+    4 < number
+}
+
+/// The next place from this one on of an object of the type that is asked for.
+fn next_of_type<L: Ledger>(ledger: &L, filter: &Filter, from: usize) -> Option<usize>
+    requires { from < length (L.state ledger.now).now.objects }
+    ensures next { NextCandidate (L.state ledger.now).now.objects (L.moment ledger.now)
+        (filter_of filter.now) from result }
+    ensures within { IfSome result (λ place. place < length (L.state ledger.now).now.objects) }
+{
+    match filter.object_type {
+        Some(number) => ledger.next_with(Feature::Kind(number), from),
+        None => Some(from),
+    }
+}
+
+/// The next place from this one on of an object with the algorithm that is asked for.
+fn next_of_algorithm<L: Ledger>(ledger: &L, filter: &Filter, from: usize) -> Option<usize>
+    requires { from < length (L.state ledger.now).now.objects }
+    ensures next { NextCandidate (L.state ledger.now).now.objects (L.moment ledger.now)
+        (filter_of filter.now) from result }
+    ensures within { IfSome result (λ place. place < length (L.state ledger.now).now.objects) }
+{
+    match filter.algorithm {
+        Some(number) => ledger.next_with(Feature::Algorithm(number), from),
+        None => Some(from),
+    }
+}
+
+/// The next place from this one on of an object with the length that is asked for.
+fn next_of_length<L: Ledger>(ledger: &L, filter: &Filter, from: usize) -> Option<usize>
+    requires { from < length (L.state ledger.now).now.objects }
+    ensures next { NextCandidate (L.state ledger.now).now.objects (L.moment ledger.now)
+        (filter_of filter.now) from result }
+    ensures within { IfSome result (λ place. place < length (L.state ledger.now).now.objects) }
+{
+    match filter.length {
+        Some(bits) => ledger.next_with(Feature::Length(bits), from),
+        None => Some(from),
+    }
+}
+
+/// Makes the ledger ready for the features that a Locate asks for, where its answer is to be held against all objects.
+pub(crate) fn prepare<L: Ledger>(ledger: &mut L, filter: &Filter, count: usize)
+    ensures meaning { L.state ledger.new ≡ L.state ledger.old }
+    ensures moment { L.moment ledger.new ≡ L.moment ledger.old }
+{
+    if filter.is_loose || is_full(filter.maximum, count) {
+        return;
+    }
+    if filter.state.is_some() || filter.names.as_slice().is_empty() {
+        ledger.prepare(Feature::Live);
+    }
+    if filter.object_type.is_some() || filter.algorithm.is_some() || filter.length.is_some() {
+        ledger.prepare(Feature::Kind(0));
+    }
 }
 
 /// Whether the object at a place must be listed, and its place isn't among these.

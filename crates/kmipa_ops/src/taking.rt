@@ -22,6 +22,7 @@ use crate::deeds::with_deed;
 use crate::echo::{clash_bytes, is_other_number};
 use crate::failed::is_founded;
 use crate::idle::Unjudged;
+use crate::listing::prepare;
 use crate::objects::place_about;
 use crate::operation_row::Effect;
 use crate::placeholder::Placeholder;
@@ -61,7 +62,18 @@ pub fn take<L: Ledger>(
         number: ask.number(),
     };
     ledger.set_moment(t);
+    prepare_for(ledger, &ask.asked, &answer.payload);
     take_asked(alloc, ledger, rules, placeholder, frame, &ask.asked, answer)
+}
+
+/// Makes the ledger ready for what is looked for in it.
+fn prepare_for<L: Ledger>(ledger: &mut L, asked: &Asked, payload: &Option<Payload>)
+    ensures meaning { L.state ledger.new ≡ L.state ledger.old }
+    ensures moment { L.moment ledger.new ≡ L.moment ledger.old }
+{
+    if let (Asked::Locate(locate), Some(Payload::Locate(located))) = (asked, payload) {
+        prepare(ledger, &locate.filter, located.ids.len());
+    }
 }
 
 /// The list of the operations.

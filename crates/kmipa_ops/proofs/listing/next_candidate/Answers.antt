@@ -1,33 +1,47 @@
-use Rattle.std.proofs.Common.{◌≡◌, ◌∙◌, ap, sym, map, slice_get, List, ℕ, Some, None}
-use Rattle.kmipa_attrs.specs.Sets.{name_of}
+-- crates/kmipa_ops/proofs/listing/next_candidate/Answers.antt
+use Rattle.std.proofs.Common.{◌≡◌, None, Some, subst, sym, rules}
 use Rattle.kmipa_attrs.specs.Filters.{filter_of}
-use Rattle.kmipa_attrs.specs.declared.name.Name.{Name}
-use Rattle.kmipa_store.specs.Queries.{next_live_named}
-use Rattle.kmipa_ops.proofs.ListingLemmas.{mapped_at, narrow_more, narrow_none}
+use Rattle.kmipa_ops.specs.Listing.{NextCandidate}
+use Rattle.kmipa_ops.proofs.CandidateLemmas.{candidate_on}
 use Rattle.kmipa_ops.proofs.listing.next_candidate.Goals as goal
 
-pub returns-in_default-clause-next : goal.returns-in_default-clause-next
-returns-in_default-clause-next g c =
+pub returns-in_err-stated-clause-next : goal.returns-in_err-stated-clause-next
+returns-in_err-stated-clause-next g c =
     let hs = (g.L.Ledger.state c.args.ledger.now).now.objects in
+    let t = g.L.Ledger.moment c.args.ledger.now in
     let q = filter_of c.args.filter.now in
-    let asked : slice_get q.names c.names.name-index ≡ Some (name_of c.name-item.result)
-    = ap (λ (xs : List Name). slice_get (map name_of xs) c.names.name-index) (sym c.as_slice-name-items.ensures)
-    ∙ mapped_at name_of c.as_slice-name-items.result.now c.names.name-index c.name-item.result c.names-test.true
-    ∙ ap (λ (n : Name). Some (name_of n)) (sym c.name-item.is) in
-    let next : next_live_named (name_of c.name-item.result).value c.name-item.result.kind c.names.place hs ≡ None
-    = ap (λ (v : List ℕ). next_live_named v c.name-item.result.kind c.names.place hs) (sym c.as_str.ensures.value) ∙ sym c.in_default.ensures.place in
-    narrow_none q (name_of c.name-item.result) c.names.name-index asked hs (g.L.Ledger.moment c.args.ledger.now) c.args.from c.names.place c.names.invariant.0 next
+    let from = c.args.from in
+    let e : c.from_residual-in_err-stated.result ≡ None = search rules in
+    subst (NextCandidate hs t q from) (sym e) (candidate_on hs t q from c.in_ok-bearer.bearer None c.in_ok-bearer.ensures.next c.in_err-stated.ensures.next)
 
-pub names-preserved : goal.names-preserved
-names-preserved g c =
+pub returns-in_err-typed-clause-next : goal.returns-in_err-typed-clause-next
+returns-in_err-typed-clause-next g c =
     let hs = (g.L.Ledger.state c.args.ledger.now).now.objects in
+    let t = g.L.Ledger.moment c.args.ledger.now in
     let q = filter_of c.args.filter.now in
-    let asked : slice_get q.names c.names.name-index ≡ Some (name_of c.name-item.result)
-    = ap (λ (xs : List Name). slice_get (map name_of xs) c.names.name-index) (sym c.as_slice-name-items.ensures)
-    ∙ mapped_at name_of c.as_slice-name-items.result.now c.names.name-index c.name-item.result c.names-test.true
-    ∙ ap (λ (n : Name). Some (name_of n)) (sym c.name-item.is) in
-    let next : next_live_named (name_of c.name-item.result).value c.name-item.result.kind c.names.place hs ≡ Some c.in-Some.next
-    = ap (λ (v : List ℕ). next_live_named v c.name-item.result.kind c.names.place hs) (sym c.as_str.ensures.value) ∙ sym c.in-Some.ensures.place in (
-      narrow_more q (name_of c.name-item.result) c.names.name-index asked hs (g.L.Ledger.moment c.args.ledger.now) c.args.from c.names.place c.names.invariant.0 c.in-Some.next next,
-      c.in-Some.ensures.within,
-    )
+    let from = c.args.from in
+    let two = candidate_on hs t q from c.in_ok-bearer.bearer (Some c.in_ok-stated.stated) c.in_ok-bearer.ensures.next c.in_ok-stated.ensures.next in
+    let e : c.from_residual-in_err-typed.result ≡ None = search rules in
+    subst (NextCandidate hs t q from) (sym e) (candidate_on hs t q from c.in_ok-stated.stated None two c.in_err-typed.ensures.next)
+
+pub returns-in_err-coded-clause-next : goal.returns-in_err-coded-clause-next
+returns-in_err-coded-clause-next g c =
+    let hs = (g.L.Ledger.state c.args.ledger.now).now.objects in
+    let t = g.L.Ledger.moment c.args.ledger.now in
+    let q = filter_of c.args.filter.now in
+    let from = c.args.from in
+    let two = candidate_on hs t q from c.in_ok-bearer.bearer (Some c.in_ok-stated.stated) c.in_ok-bearer.ensures.next c.in_ok-stated.ensures.next in
+    let three = candidate_on hs t q from c.in_ok-stated.stated (Some c.in_ok-typed.typed) two c.in_ok-typed.ensures.next in
+    let e : c.from_residual-in_err-coded.result ≡ None = search rules in
+    subst (NextCandidate hs t q from) (sym e) (candidate_on hs t q from c.in_ok-typed.typed None three c.in_err-coded.ensures.next)
+
+pub returns-clause-next : goal.returns-clause-next
+returns-clause-next g c =
+    let hs = (g.L.Ledger.state c.args.ledger.now).now.objects in
+    let t = g.L.Ledger.moment c.args.ledger.now in
+    let q = filter_of c.args.filter.now in
+    let from = c.args.from in
+    let two = candidate_on hs t q from c.in_ok-bearer.bearer (Some c.in_ok-stated.stated) c.in_ok-bearer.ensures.next c.in_ok-stated.ensures.next in
+    let three = candidate_on hs t q from c.in_ok-stated.stated (Some c.in_ok-typed.typed) two c.in_ok-typed.ensures.next in
+    let four = candidate_on hs t q from c.in_ok-typed.typed (Some c.in_ok-coded.coded) three c.in_ok-coded.ensures.next in
+    candidate_on hs t q from c.in_ok-coded.coded c.next_of_length.result four c.next_of_length.ensures.next

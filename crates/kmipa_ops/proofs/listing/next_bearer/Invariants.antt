@@ -1,7 +1,7 @@
 use Rattle.std.proofs.Common.{◌<◌, length, Some}
 use Rattle.kmipa_attrs.specs.Filters.{filter_of}
 use Rattle.kmipa_ops.specs.Listing.{NextCandidate}
-use Rattle.kmipa_ops.proofs.listing.next_candidate.Given as goal
+use Rattle.kmipa_ops.proofs.listing.next_bearer.Given as goal
 
 abbrev pub invariant-names : goal.invariant-names
 invariant-names g l =
