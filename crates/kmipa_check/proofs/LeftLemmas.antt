@@ -40,7 +40,7 @@ use Rattle.kmipa_check.proofs.PlaceLemmas.{mapped_from}
 -- ---- one object
 
 -- a secret that is there is told by its number
-told_at : (ss : List Known) (n : ℕ) (k : Known) → slice_get ss n ≡ Some k → unwrap_or (bytes_at ss n) None ≡ k.bytes
+pub told_at : (ss : List Known) (n : ℕ) (k : Known) → slice_get ss n ≡ Some k → unwrap_or (bytes_at ss n) None ≡ k.bytes
 told_at ss n k at = ap (λ (o : Option Known). unwrap_or (option_map (λ (x : Known). x.bytes) o) None) at
 
 -- a destroyed object's bytes are gone, and a live one's are in a secret
@@ -48,11 +48,11 @@ gone_is : (material : Material) (alive : Bool) → alive ≡ false → GoneIfDes
 gone_is Gone alive e g = refl
 gone_is (Secret s) alive e g = let P : Bool → Type 0 = λ b. GoneIfDestroyed b (Secret s) in absurd (subst P e g)
 
-dead_is : (alive : Bool) → GoneIfDestroyed alive Gone → alive ≡ false
+pub dead_is : (alive : Bool) → GoneIfDestroyed alive Gone → alive ≡ false
 dead_is true g = absurd g
 dead_is false g = refl
 
-live_is : (alive : Bool) (s : SecretNo) → GoneIfDestroyed alive (Secret s) → alive ≡ true
+pub live_is : (alive : Bool) (s : SecretNo) → GoneIfDestroyed alive (Secret s) → alive ≡ true
 live_is true s g = refl
 live_is false s g = absurd g
 

@@ -19,6 +19,7 @@ pub mod DescribedLemmas
 pub mod DeclarableLemmas
 pub mod DeclareLemmas
 pub mod OpeningLemmas
+pub mod KeptLemmas
 pub mod ReadableLemmas
 pub mod TurnLemmas
 pub mod CheckLemmas

@@ -1,5 +1,5 @@
 -- The ledger that a declaration opens, entry by entry. Not promised: `Verdicts` says what is known before the first turn.
-use Rattle.std.specs.Prelude.{◌≡◌, ℕ, ℤ, List, [], ◌∷◌, ◌++◌, map, length, Contains, Option, Some, None, Result, Ok, Err}
+use Rattle.std.specs.Prelude.{◌≡◌, ◌+◌, ℕ, ℤ, List, [], ◌∷◌, ◌++◌, map, length, Contains, Option, Some, None, Result, Ok, Err}
 use Rattle.std.specs.List.{AllZip}
 use Rattle.kmipa_object.specs.Inventory.{Thing, IsInventory, rule_of}
 use Rattle.kmipa_object.specs.declared.life.Material.{Material}
@@ -30,6 +30,20 @@ with_declared_at None m e = record {
 
 abbrev pub with_declared : Meaning → EntryOf → Meaning
 with_declared m e = with_declared_at e.attributes.destroy m e
+
+-- what a ledger means that these entries open, behind those that were there
+abbrev pub opened_from : Meaning → List EntryOf → Meaning
+opened_from m [] = m
+opened_from m (e ∷ es) = opened_from (with_declared m e) es
+
+-- what a ledger means that a declaration of these entries opens
+abbrev pub opened_by : List EntryOf → Meaning
+opened_by entries = opened_from (record { objects = []; secrets = [] }) entries
+
+-- the next number of a secret behind an object: that of this one is the next, or it has none
+abbrev pub IsNextNumber : Material → ℕ → ℕ → Type 0
+IsNextNumber Gone next more = more ≡ next
+IsNextNumber (Secret secret) next more = (secret.number ≡ next) × (more ≡ next + 1)
 
 -- where the bytes of a declared object are, by its Destroy Date: a live one's in a new secret
 abbrev pub PlacedAt : Option ℤ → LedgerState → EntryOf → Material → LedgerState → Type 0

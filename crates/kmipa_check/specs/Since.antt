@@ -11,6 +11,7 @@ use Rattle.kmipa_check.specs.Orders.{IsOrder}
 use Rattle.kmipa_check.specs.Runs.{IsAccepted}
 use Rattle.kmipa_check.specs.Verdicts.{IsLate, IsRefused, Checks}
 use Rattle.kmipa_check.specs.declared.segment.Checked.{Checked}
+use Rattle.kmipa_check.specs.declared.segment.CheckedOn.{CheckedOn}
 use Rattle.kmipa_check.specs.declared.fault.CheckFault.{CheckFault}
 use Rattle.kmipa_check.specs.declared.fault.CheckFault.TheVariants.{Memory}
 use Rattle.kmipa_check.specs.declared.verdict.Refused.{Refused}
@@ -55,6 +56,11 @@ pub data IsRefusedSince (declared : DeclarationOf) (since : Option ℤ) (order :
 abbrev pub verdict_told : Result Checked CheckFault → Result Verdict CheckFault
 verdict_told (Ok checked) = Ok checked.verdict
 verdict_told (Err fault) = Err fault
+
+-- and of what is answered where the ledger is handed out too
+abbrev pub checked_alone : Result CheckedOn CheckFault → Result Checked CheckFault
+checked_alone (Ok on) = Ok on.checked
+checked_alone (Err fault) = Err fault
 
 -- what a check that goes on from a moment answers: its faults are those of a check without one
 abbrev pub ChecksSince : List MarkOf → DeclarationOf → Option ℤ → List TurnOf → Result Verdict CheckFault → Type 0

@@ -1,7 +1,8 @@
 //! The check of a segment of a recording: it goes on from what the one before it left, and leaves what the next goes on from.
 
-ghost use Rattle.std.specs.Prelude.{◌≡◌, IfOk, map};
+ghost use Rattle.std.specs.Prelude.{◌≡◌, [], IfOk, IfSome, map};
 ghost use Rattle.kmipa_store.specs.Choices.{IsSound};
+ghost use Rattle.kmipa_store.specs.States.{state_of_journal};
 ghost use Rattle.kmipa_msgs.specs.Messages.{rules_of};
 ghost use Rattle.kmipa_record.specs.Declarations.{AreDeclared, declaration_of};
 ghost use Rattle.kmipa_record.specs.Marks.{AreRecorded};
@@ -10,13 +11,16 @@ ghost use Rattle.kmipa_record.specs.Witnesses.{witness_of};
 ghost use Rattle.kmipa_check.specs.Left.{LeavesAtYes};
 ghost use Rattle.kmipa_check.specs.Replays.{AllTakable, Replayed};
 ghost use Rattle.kmipa_check.specs.Runs.{rules_declared};
-ghost use Rattle.kmipa_check.specs.SegmentReplays.{FirstTold, IsLeftSince, TellsSegment};
+ghost use Rattle.kmipa_check.specs.SegmentReplays.{FirstTold, IsHeldAs, IsLeftSince, TellsSegment};
 ghost use Rattle.kmipa_check.specs.Segments.{Leads};
-ghost use Rattle.kmipa_check.specs.Since.{ChecksSince, last_stamp, verdict_told};
+ghost use Rattle.kmipa_check.specs.Since.{ChecksSince, checked_alone, last_stamp, verdict_told};
 ghost use Rattle.kmipa_check.specs.Steps.{step_of};
+ghost use Rattle.kmipa_check.specs.Opening.{opened_by};
+ghost use Rattle.kmipa_check.specs.Verdicts.{AreKnown};
 
 use crate::fault::CheckFault;
 use crate::grants::Grants;
+use crate::kept::{kept_or_opened, stands_as_opened};
 use crate::late::{first_late, is_at};
 use crate::leaving::declaration_left;
 use crate::opening::{open_ledger, rules_of_declaration};
@@ -28,7 +32,7 @@ use crate::verdict::{Refused, Verdict};
 use kmipa_msgs::Rules;
 use kmipa_ops::Why;
 use kmipa_record::{Declaration, Transcript, Witness};
-use kmipa_store::Ledger;
+use kmipa_store::{Journal, Ledger};
 use std::alloc::Global;
 
 /// What a run leaves to the next segment.
@@ -46,6 +50,13 @@ pub struct Checked {
     pub verdict: Verdict,
     /// None at a no.
     pub left: Option<Left>,
+}
+
+/// A segment that was checked on a ledger, and this, where it stands as what is left opens it.
+#[derive(Drop)]
+pub struct CheckedOn {
+    pub checked: Checked,
+    pub ledger: Option<Journal>,
 }
 
 /// What `check` answers of a segment that goes on from a moment (in seconds since 1970), with what its run leaves. A first turn whose own
@@ -67,11 +78,72 @@ pub fn check_segment(
         Leads (declaration_of declaration.now) since (transcript_of transcript.now) (witness_of witness.now)
         (declaration_of left.declaration) left.until)) }
 {
+    let mut ledger = open_ledger(alloc, declaration)?;
+    check_over(alloc, transcript, declaration, witness, since, &mut ledger)
+}
+
+/// The same on a ledger that stands as the declaration opens it, where one is given. It is handed out at a yes, where it then stands as what is left
+/// opens it: then the next segment costs nothing that follows the inventory but one look at each object, and the making of what is left.
+pub fn check_segment_on(
+    alloc: Global,
+    transcript: &Transcript,
+    declaration: &Declaration,
+    witness: &Witness,
+    since: Option<i64>,
+    kept: Option<Journal>,
+) -> Result<CheckedOn, CheckFault>
+    requires declared { AreDeclared (declaration_of declaration.now) }
+    requires stands { IfSome kept (λ ledger.
+        (state_of_journal ledger).now ≡ opened_by (declaration_of declaration.now).entries) }
+    ensures checks { AreRecorded (transcript_of transcript.now)
+        → ChecksSince (transcript_of transcript.now) (declaration_of declaration.now) since (witness_of witness.now)
+        (verdict_told (checked_alone result)) }
+    ensures leads { AreRecorded (transcript_of transcript.now)
+        → IfOk result (λ on. LeavesAtYes on.checked.verdict on.checked.left (λ left.
+        Leads (declaration_of declaration.now) since (transcript_of transcript.now) (witness_of witness.now)
+        (declaration_of left.declaration) left.until)) }
+    ensures stands { IfOk result (λ on. IfSome on.ledger (λ ledger. IfSome on.checked.left (λ left.
+        (state_of_journal ledger).now ≡ opened_by (declaration_of left.declaration).entries))) }
+{
+    let mut ledger = kept_or_opened(alloc, declaration, kept)?;
+    let checked = check_over(alloc, transcript, declaration, witness, since, &mut ledger)?;
+    if checked.left.is_some() && stands_as_opened(&mut ledger) {
+        return Ok(CheckedOn {
+            checked,
+            ledger: Some(ledger),
+        });
+    }
+    Ok(CheckedOn {
+        checked,
+        ledger: None,
+    })
+}
+
+/// The same over a ledger that knows what the declaration says.
+fn check_over<L: Ledger>(
+    alloc: Global,
+    transcript: &Transcript,
+    declaration: &Declaration,
+    witness: &Witness,
+    since: Option<i64>,
+    ledger: &mut L,
+) -> Result<Checked, CheckFault>
+    requires known { AreKnown (declaration_of declaration.now) [] (L.state ledger.old).now }
+    requires sound { IsSound (L.state ledger.old).now }
+    ensures checks { AreRecorded (transcript_of transcript.now)
+        → ChecksSince (transcript_of transcript.now) (declaration_of declaration.now) since (witness_of witness.now)
+        (verdict_told result) }
+    ensures leads { AreRecorded (transcript_of transcript.now)
+        → IfOk result (λ checked. LeavesAtYes checked.verdict checked.left (λ left.
+        Leads (declaration_of declaration.now) since (transcript_of transcript.now) (witness_of witness.now)
+        (declaration_of left.declaration) left.until)) }
+    ensures held { IfOk result (λ checked. IfSome checked.left (λ left.
+        IsHeldAs (declaration_of left.declaration) (L.state ledger.new).now)) }
+{
     let calls = read_calls(alloc, transcript)?;
     let steps = steps_of(alloc, &Grants::of(declaration), &calls, &witness.turns)?;
     let rules = rules_of_declaration(alloc, declaration)?;
-    let mut ledger = open_ledger(alloc, declaration)?;
-    replay_segment(alloc, &mut ledger, &rules, &steps, declaration, since)
+    replay_segment(alloc, ledger, &rules, &steps, declaration, since)
 }
 
 /// Replays the steps from a moment on; at a yes with the declaration of what the ledger then means.
@@ -91,6 +163,8 @@ fn replay_segment<L: Ledger>(
     ensures leaves { IfOk result (λ checked. LeavesAtYes checked.verdict checked.left (λ left.
         IsLeftSince (declaration_of declaration.now) since (map step_of steps.now)
         (declaration_of left.declaration) left.until)) }
+    ensures held { IfOk result (λ checked. IfSome checked.left (λ left.
+        IsHeldAs (declaration_of left.declaration) (L.state ledger.new).now)) }
 {
     match refused_first(steps, since) {
         Some(refused) => return Ok(no(refused)),

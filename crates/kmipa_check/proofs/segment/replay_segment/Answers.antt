@@ -1,5 +1,5 @@
 use Rattle.std.proofs.Common.{Ok, map, sym, ap, subst}
-use Rattle.kmipa_record.specs.Declarations.{declaration_of}
+use Rattle.kmipa_record.specs.Declarations.{DeclarationOf, declaration_of}
 use Rattle.kmipa_check.specs.Replays.{TellsRun}
 use Rattle.kmipa_check.specs.SegmentReplays.{TellsSegment}
 use Rattle.kmipa_check.specs.Since.{as_ever}
@@ -29,6 +29,12 @@ returns-in_ok-declaration_left-in-Ok-Yes-clause-leaves g c =
       since_then = placed_since c.args.since (map step_of c.args.steps.now) c.in-None.ensures replayed.placed;
       last = c.last_stamp.ensures;
     }
+
+pub returns-in_ok-declaration_left-in-Ok-Yes-clause-held : goal.returns-in_ok-declaration_left-in-Ok-Yes-clause-held
+returns-in_ok-declaration_left-in-Ok-Yes-clause-held g c = record {
+  sound = c.in-Ok-Yes.ensures.sound c.in-Ok-Yes.field-0-is;
+  entries = ap (λ (d : DeclarationOf). d.entries) c.in_ok-declaration_left-in-Ok-Yes.ensures;
+}
 
 pub returns-in-Ok-No-clause-told : goal.returns-in-Ok-No-clause-told
 returns-in-Ok-No-clause-told g c =

@@ -1,6 +1,5 @@
 use Rattle.std.proofs.Common.{sym, subst, List, map, length}
 use Rattle.std.proofs.lemmas.Result.{err_from_is_err_and}
-use Rattle.kmipa_store.specs.States.{state_of_journal}
 use Rattle.kmipa_record.specs.Declarations.{declaration_of}
 use Rattle.kmipa_record.specs.Transcripts.{transcript_of}
 use Rattle.kmipa_record.specs.Witnesses.{turn_of, witness_of}
@@ -17,10 +16,10 @@ use Rattle.kmipa_check.specs.Since.{verdict_told}
 use Rattle.kmipa_check.specs.SegmentReplays.{TellsSegment}
 use Rattle.kmipa_check.proofs.SegmentLemmas.{LeftTold, left_reported, segment_reported}
 use Rattle.kmipa_check.proofs.ReplayLemmas.{replayed_none}
-use Rattle.kmipa_check.proofs.segment.check_segment.Goals as goal
+use Rattle.kmipa_check.proofs.segment.check_over.Goals as goal
 
 pub returns-in_err-steps-clause-checks : goal.returns-in_err-steps-clause-checks
-returns-in_err-steps-clause-checks c recorded =
+returns-in_err-steps-clause-checks g c recorded =
     let p = err_from_is_err_and c.from_residual-in_err-steps.result c.from_residual-in_err-steps.ensures.1 in
     let marks = transcript_of c.args.transcript.now in
     let calls : List Call = c.deref.result.now in
@@ -32,7 +31,7 @@ returns-in_err-steps-clause-checks c recorded =
     rw (p.1, p.2) (order_faults marks (declaration_of c.args.declaration.now) (witness_of c.args.witness.now) (map call_of calls) c.in_err-steps.field-0.0 are (subst G c.of.ensures (subst Q c.deref-2.ensures.value f)))
 
 pub replay_segment-requires-clause-takable : goal.replay_segment-requires-clause-takable
-replay_segment-requires-clause-takable c =
+replay_segment-requires-clause-takable g c =
     let calls : List Call = c.in_ok-calls.calls.items in
     let turns : List Turn = c.deref-2.result.now in
     let steps : List Step = c.in_ok-steps.steps.items in
@@ -43,11 +42,11 @@ replay_segment-requires-clause-takable c =
     (subst F c.deref.ensures.value c.in_ok-steps.ensures.formed))
 
 pub replay_segment-requires-clause-replayed : goal.replay_segment-requires-clause-replayed
-replay_segment-requires-clause-replayed c =
-    replayed_none (declaration_of c.args.declaration.now) (map step_of c.deref-3.result.now) (state_of_journal c.in_ok-ledger.ledger).now c.in_ok-ledger.ensures.opened c.in_ok-ledger.ensures.sound
+replay_segment-requires-clause-replayed g c =
+    replayed_none (declaration_of c.args.declaration.now) (map step_of c.deref-3.result.now) (g.L.Ledger.state c.args.ledger.now).now c.requires.known c.requires.sound
 
 pub returns-clause-checks : goal.returns-clause-checks
-returns-clause-checks c recorded =
+returns-clause-checks g c recorded =
     let marks = transcript_of c.args.transcript.now in
     let declared = declaration_of c.args.declaration.now in
     let calls : List Call = c.in_ok-calls.calls.items in
@@ -64,7 +63,7 @@ returns-clause-checks c recorded =
     segment_reported marks declared c.args.since (witness_of c.args.witness.now) (map call_of calls) (map step_of steps) (verdict_told c.replay_segment.result) are order (subst S c.deref-3.ensures.value c.replay_segment.ensures.told)
 
 pub returns-clause-leads : goal.returns-clause-leads
-returns-clause-leads c recorded =
+returns-clause-leads g c recorded =
     let marks = transcript_of c.args.transcript.now in
     let declared = declaration_of c.args.declaration.now in
     let calls : List Call = c.in_ok-calls.calls.items in
