@@ -1,6 +1,6 @@
 -- What a search answers.
-use Rattle.std.proofs.Common.{◌≡◌, ◌≢◌, ◌<◌, ◌≤◌, ◌⊎◌, inl, inr, ℕ, zero, suc, ℤ, Bool, true, false, List, [], ◌∷◌, map, length, get_or, Some, None, All, Contains, Result, Ok, Err, refl, sym, ap, ◌∙◌, subst, arith}
-use Rattle.std.specs.Prelude.{AllPairs}
+use Rattle.std.proofs.Common.{◌≡◌, ◌≢◌, ◌<◌, ◌≤◌, ◌⊎◌, inl, inr, ℕ, zero, suc, ℤ, Bool, true, false, List, [], ◌∷◌, map, length, get_or, Option, Some, None, All, Contains, Result, Ok, Err, refl, sym, ap, ◌∙◌, subst, arith}
+use Rattle.std.specs.Prelude.{AllPairs, IfSome}
 use Rattle.std.proofs.lemmas.List.{length-map}
 use Rattle.std.proofs.lemmas.Option.{slice_get-get_or}
 use Rattle.std.proofs.lemmas.List.Elements.{All-contains}
@@ -29,10 +29,11 @@ use Rattle.kmipa_search.specs.Next.{weight}
 use Rattle.kmipa_search.specs.Progress.{ordered, AllReadable, HaveRun, CanBeTaken, Opens, ComesTo}
 use Rattle.kmipa_search.specs.Taken.{no_step, step_at}
 use Rattle.kmipa_search.specs.Confirming.{Confirms, IsTried, turns_at}
+use Rattle.kmipa_search.specs.Outcomes.{AreOver}
 use Rattle.kmipa_search.specs.Laws.{IsEnough, EnoughDecides, ForcedIsLight}
-use Rattle.kmipa_search.specs.Found.{HasDecided, stopped, enough, one_by_one, Finds, Searches}
+use Rattle.kmipa_search.specs.Found.{HasDecided, stopped, enough, one_by_one, Finds, FindsIn, Searches, SearchesIn}
 use Rattle.kmipa_search.specs.declared.found.Found.{Found}
-use Rattle.kmipa_search.specs.declared.found.Found.TheVariants.{Yes, GaveUp, Refuted}
+use Rattle.kmipa_search.specs.declared.found.Found.TheVariants.{Yes, GaveUp, Refuted, OutOfTime}
 use Rattle.kmipa_check.proofs.PlaceLemmas.{contains_at, at_contains, mapped_from, get_at}
 use Rattle.kmipa_search.proofs.WritableLemmas.{bare_written, recorded_number}
 use Rattle.kmipa_search.proofs.PermutationLemmas.{IsOnce, once_pairs}
@@ -40,6 +41,46 @@ use Rattle.kmipa_search.proofs.PlaceLemmas.{one_place}
 use Rattle.kmipa_search.proofs.CutLemmas.{once_permuted}
 use Rattle.kmipa_search.proofs.ForcedLemmas.{light}
 use Rattle.kmipa_search.proofs.PlainLemmas.{same_steps, plain_at, plain_from, plain_long, same_place, plain_begun, plain_timed, plain_once, run_takes_all}
+
+-- ---- the seconds of a search
+
+-- what is found without an end of time is found in any
+pub found_in_time : (seconds : ℕ) (marks : List MarkOf) (declared : DeclarationOf) (budget : ℕ) (found : Found) → Finds marks declared budget found → FindsIn seconds marks declared budget found
+found_in_time seconds marks declared budget (Yes witness count) f = f
+found_in_time seconds marks declared budget (GaveUp count) f = f
+found_in_time seconds marks declared budget (Refuted count object) f = f
+found_in_time seconds marks declared budget (OutOfTime count after) f = absurd f
+
+pub in_time : (seconds : ℕ) (marks : List MarkOf) (declared : DeclarationOf) (budget : ℕ) (result : Result Found CheckFault) → Searches marks declared budget result
+    → SearchesIn seconds marks declared budget result
+in_time seconds marks declared budget (Ok found) s = found_in_time seconds marks declared budget found s
+in_time seconds marks declared budget (Err fault) s = s
+
+-- what another way found before
+pub some_in_time : (seconds : ℕ) (marks : List MarkOf) (declared : DeclarationOf) (budget : ℕ) (told : Option Found) (found : Found) → told ≡ Some found
+    → IfSome told (Finds marks declared budget) → FindsIn seconds marks declared budget found
+some_in_time seconds marks declared budget told found is finds =
+    let P : Option Found → Type 0 = λ o. IfSome o (Finds marks declared budget) in
+    found_in_time seconds marks declared budget found (subst P is finds)
+
+-- its seconds are over
+pub over_in_time : (seconds : ℕ) (marks : List MarkOf) (declared : DeclarationOf) (calls : List CallOf) (budget count after : ℕ) (over : Option ℕ) → AreCalls marks calls → count ≤ budget
+    → AreOver seconds over → over ≡ Some after → FindsIn seconds marks declared budget (OutOfTime count after)
+over_in_time seconds marks declared calls budget count after over are few all is =
+    let P : Option ℕ → Type 0 = λ o. AreOver seconds o in
+    let told = subst P is all in
+    (few, (calls, are), told.0, told.1)
+
+-- where a search has all the time that it takes, it doesn't end before
+pub with_all_time : (marks : List MarkOf) (declared : DeclarationOf) (budget : ℕ) (result : Result Found CheckFault) → SearchesIn 0 marks declared budget result
+    → Searches marks declared budget result
+with_all_time marks declared budget (Ok (Yes witness count)) s = s
+with_all_time marks declared budget (Ok (GaveUp count)) s = s
+with_all_time marks declared budget (Ok (Refuted count object)) s = s
+with_all_time marks declared budget (Ok (OutOfTime count after)) s = absurd (omega (arith, s.2, s.3))
+with_all_time marks declared budget (Err fault) s = s
+
+-- ---- giving up
 
 -- calls that aren't plain: nothing is decided
 pub undecided : (marks : List MarkOf) (declared : DeclarationOf) (calls : List CallOf) (budget count : ℕ) → LawsOfCheck → AreRecorded marks → AreCalls marks calls → AreNotPlain calls
@@ -201,6 +242,7 @@ module _ (marks : List MarkOf) (declared : DeclarationOf) (calls : List CallOf) 
             (subst P (sym c.0) a, subst W (sym c.0) (writable places in_steps witness is), omega (arith, c.1, few), omega (arith, c.1, subst Q (sym c.0) turns_long))
         by a (Ok (GaveUp n)) c = absurd c
         by a (Ok (Refuted n object)) c = absurd c
+        by a (Ok (OutOfTime n after)) c = absurd c
         by a (Err fault.Memory) c = tt
         by a (Err (fault.Outside number side o)) c = absurd c
         by a (Err (fault.Witness f)) c = absurd c
@@ -234,6 +276,7 @@ tried marks declared calls budget count witness (Ok (Yes w n)) laws r are not fe
     (subst P (sym h.0) h.2, subst W (sym h.0) h.3, omega (arith, h.1, few), omega (arith, h.1, subst Q (sym h.0) paid))
 tried marks declared calls budget count witness (Ok (GaveUp n)) laws r are not few paid h = undecided marks declared calls budget n laws r are not (omega (arith, h, few))
 tried marks declared calls budget count witness (Ok (Refuted n object)) laws r are not few paid h = absurd h
+tried marks declared calls budget count witness (Ok (OutOfTime n after)) laws r are not few paid h = absurd h
 tried marks declared calls budget count witness (Err fault.Memory) laws r are not few paid h = tt
 tried marks declared calls budget count witness (Err (fault.Outside number side o)) laws r are not few paid h = absurd h
 tried marks declared calls budget count witness (Err (fault.Witness f)) laws r are not few paid h = absurd h
@@ -248,3 +291,4 @@ enough_decides_lem one_list marks declared calls budget (GaveUp count) nothing r
     let P : List CallOf → Type 0 = λ cs. IsEnough cs budget in
     f.1.2 nothing (elim (subst P (one_list marks calls f.1.0 r are f.1.1) few) [ inl p ↦ enough p.0 p.1 p.2 | inr p ↦ one_by_one p.0 p.1 ]) explained
 enough_decides_lem one_list marks declared calls budget (Refuted count object) nothing r are few f = f.2
+enough_decides_lem one_list marks declared calls budget (OutOfTime count after) nothing r are few f = absurd f

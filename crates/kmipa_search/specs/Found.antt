@@ -1,5 +1,5 @@
 -- What a search tells.
-use Rattle.std.specs.Prelude.{◌<◌, ◌≤◌, ℕ, List, length, Result, Ok, Err}
+use Rattle.std.specs.Prelude.{◌≡◌, ◌<◌, ◌≤◌, ℕ, List, length, Result, Ok, Err}
 use Rattle.std.specs.String.{string_bytes}
 use Rattle.kmipa_record.specs.Marks.{MarkOf}
 use Rattle.kmipa_record.specs.Declarations.{DeclarationOf}
@@ -14,7 +14,7 @@ use Rattle.kmipa_search.specs.Plain.{ArePlain, IsForced}
 use Rattle.kmipa_search.specs.ByObject.{IsRefutedBy}
 use Rattle.kmipa_search.specs.Next.{weight}
 use Rattle.kmipa_search.specs.declared.found.Found.{Found}
-use Rattle.kmipa_search.specs.declared.found.Found.TheVariants.{Yes, GaveUp, Refuted}
+use Rattle.kmipa_search.specs.declared.found.Found.TheVariants.{Yes, GaveUp, Refuted, OutOfTime}
 
 -- Where a search that gives up has decided: the calls are plain, and steps were left, or the budget was enough for every try; or they are
 -- forced, and it was enough to try each call once.
@@ -32,6 +32,7 @@ Finds marks declared budget (Yes witness count) = IsAccepted marks declared (wit
 Finds marks declared budget (GaveUp count) = (count ≤ budget)
     × ((calls : List CallOf) × AreCalls marks calls × (GrantsNothing (grants_declared declared) → HasDecided calls budget count → IsExplained marks declared → ⊥))
 Finds marks declared budget (Refuted count object) = (count ≤ budget) × IsRefutedBy marks declared (string_bytes object) × (IsExplained marks declared → ⊥)
+Finds marks declared budget (OutOfTime count after) = ⊥
 
 -- what a search answers: what it found, or the first message that is outside
 abbrev pub Searches : List MarkOf → DeclarationOf → ℕ → Result Found CheckFault → Type 0
@@ -39,3 +40,16 @@ Searches marks declared budget (Ok found) = Finds marks declared budget found
 Searches marks declared budget (Err (Outside number side o)) = IsFirstOutside marks number side o.item o.kind
 Searches marks declared budget (Err (Witness f)) = ⊥
 Searches marks declared budget (Err Memory) = Unit {0}
+
+-- ---- what is told of a search that has so many seconds, or all the time that it takes, where these are 0
+
+-- The same; or these seconds are over. Then all messages are inside, and of orders nothing is said.
+abbrev pub FindsIn : ℕ → List MarkOf → DeclarationOf → ℕ → Found → Type 0
+FindsIn seconds marks declared budget (Yes witness count) = Finds marks declared budget (Yes witness count)
+FindsIn seconds marks declared budget (GaveUp count) = Finds marks declared budget (GaveUp count)
+FindsIn seconds marks declared budget (Refuted count object) = Finds marks declared budget (Refuted count object)
+FindsIn seconds marks declared budget (OutOfTime count after) = (count ≤ budget) × ((calls : List CallOf) × AreCalls marks calls) × (after ≡ seconds) × (0 < after)
+
+abbrev pub SearchesIn : ℕ → List MarkOf → DeclarationOf → ℕ → Result Found CheckFault → Type 0
+SearchesIn seconds marks declared budget (Ok found) = FindsIn seconds marks declared budget found
+SearchesIn seconds marks declared budget (Err fault) = Searches marks declared budget (Err fault)

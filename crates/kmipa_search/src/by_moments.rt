@@ -6,7 +6,7 @@ ghost use Rattle.kmipa_record.specs.Marks.{AreRecorded};
 ghost use Rattle.kmipa_record.specs.Transcripts.{transcript_of};
 ghost use Rattle.kmipa_check.specs.Grants.{GrantsNothing, grants_declared};
 ghost use Rattle.kmipa_search.specs.ByMoments.{IsKept};
-ghost use Rattle.kmipa_search.specs.Found.{Finds, Searches};
+ghost use Rattle.kmipa_search.specs.Found.{Finds, FindsIn, Searches, SearchesIn};
 
 use crate::found::Found;
 use crate::grants::grants_nothing;
@@ -49,10 +49,10 @@ pub(crate) fn or_at_moments(
     answered: Result<Found, CheckFault>,
 ) -> Result<Found, CheckFault>
     requires { AreDeclared (declaration_of declaration.now) }
-    ensures { (kept : ℕ) → AreRecorded (transcript_of transcript.now)
+    ensures { (seconds kept : ℕ) → AreRecorded (transcript_of transcript.now)
         → IsKept (declaration_of declaration.now) budget kept
-        → Searches (transcript_of transcript.now) (declaration_of declaration.now) kept answered
-        → Searches (transcript_of transcript.now) (declaration_of declaration.now) budget result }
+        → SearchesIn seconds (transcript_of transcript.now) (declaration_of declaration.now) kept answered
+        → SearchesIn seconds (transcript_of transcript.now) (declaration_of declaration.now) budget result }
 {
     match answered {
         Ok(found) => found_at_moments(alloc, transcript, declaration, calls, budget, found),
@@ -70,15 +70,16 @@ fn found_at_moments(
     found: Found,
 ) -> Result<Found, CheckFault>
     requires { AreDeclared (declaration_of declaration.now) }
-    ensures { (kept : ℕ) → AreRecorded (transcript_of transcript.now)
+    ensures { (seconds kept : ℕ) → AreRecorded (transcript_of transcript.now)
         → IsKept (declaration_of declaration.now) budget kept
-        → Finds (transcript_of transcript.now) (declaration_of declaration.now) kept found
-        → Searches (transcript_of transcript.now) (declaration_of declaration.now) budget result }
+        → FindsIn seconds (transcript_of transcript.now) (declaration_of declaration.now) kept found
+        → SearchesIn seconds (transcript_of transcript.now) (declaration_of declaration.now) budget result }
 {
     match found {
         Found::Yes(witness, steps) => Ok(Found::Yes(witness, steps)),
         Found::GaveUp(steps) => gave_up(alloc, transcript, declaration, calls, budget, steps),
         Found::Refuted(steps, object) => Ok(Found::Refuted(steps, object)),
+        Found::OutOfTime(steps, after) => Ok(Found::OutOfTime(steps, after)),
     }
 }
 

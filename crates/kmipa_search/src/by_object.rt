@@ -10,7 +10,7 @@ ghost use Rattle.kmipa_record.specs.Entries.{entry_of, items_of};
 ghost use Rattle.kmipa_parts.specs.Parts.{IsElsewhere, IsPartOf};
 ghost use Rattle.kmipa_search.specs.ByObject.{AreCallParts, AreOrderly, IsCallPart, RefutesCalls, declared_on, part_step};
 ghost use Rattle.kmipa_search.specs.Candidates.{candidate_step};
-ghost use Rattle.kmipa_search.specs.Found.{Finds, Searches};
+ghost use Rattle.kmipa_search.specs.Found.{Finds, FindsIn, Searches, SearchesIn};
 ghost use Rattle.kmipa_search.specs.Progress.{AllReadable, HaveRun};
 
 use crate::candidate::Candidate;
@@ -100,9 +100,10 @@ pub(crate) fn or_refuted(
     answered: Result<Found, CheckFault>,
 ) -> Result<Found, CheckFault>
     requires { AreDeclared (declaration_of declaration.now) }
-    ensures { (marks : List MarkOf) (budget : ℕ) → AreRecorded marks → AreCalls marks (map call_of calls.now)
-        → Searches marks (declaration_of declaration.now) budget answered
-        → Searches marks (declaration_of declaration.now) budget result }
+    ensures { (seconds : ℕ) (marks : List MarkOf) (budget : ℕ) → AreRecorded marks
+        → AreCalls marks (map call_of calls.now)
+        → SearchesIn seconds marks (declaration_of declaration.now) budget answered
+        → SearchesIn seconds marks (declaration_of declaration.now) budget result }
 {
     match answered {
         Ok(found) => found_or_refuted(alloc, calls, declaration, found),
@@ -118,14 +119,16 @@ fn found_or_refuted(
     found: Found,
 ) -> Result<Found, CheckFault>
     requires { AreDeclared (declaration_of declaration.now) }
-    ensures { (marks : List MarkOf) (budget : ℕ) → AreRecorded marks → AreCalls marks (map call_of calls.now)
-        → Finds marks (declaration_of declaration.now) budget found
-        → Searches marks (declaration_of declaration.now) budget result }
+    ensures { (seconds : ℕ) (marks : List MarkOf) (budget : ℕ) → AreRecorded marks
+        → AreCalls marks (map call_of calls.now)
+        → FindsIn seconds marks (declaration_of declaration.now) budget found
+        → SearchesIn seconds marks (declaration_of declaration.now) budget result }
 {
     match found {
         Found::Yes(witness, steps) => Ok(Found::Yes(witness, steps)),
         Found::GaveUp(steps) => gave_up(alloc, calls, declaration, steps),
         Found::Refuted(steps, object) => Ok(Found::Refuted(steps, object)),
+        Found::OutOfTime(steps, after) => Ok(Found::OutOfTime(steps, after)),
     }
 }
 
@@ -321,8 +324,9 @@ fn search_parts<'c, 'a>(
 fn has_decided(outcome: &Outcome, most: u64) -> bool
     ensures none { result ≡ true → outcome.now.order ≡ None }
     ensures less { result ≡ true → outcome.now.steps < most }
+    ensures in_time { result ≡ true → outcome.now.over ≡ None }
 {
-    outcome.order.is_none() && outcome.steps < most
+    outcome.order.is_none() && outcome.over.is_none() && outcome.steps < most
 }
 
 /// The parts of calls on one object: of those at these places, in their order. `None` where one of them has none, or another call may change

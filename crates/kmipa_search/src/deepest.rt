@@ -19,8 +19,12 @@ pub struct Deepest<'w, W> {
 }
 
 impl<'w, W: Watch> Deepest<'w, W> {
+    ghost use Rattle.std.specs.Prelude.{◌≡◌};
+
     /// Of a search that begins now, and that this one watches too.
-    pub fn new(alloc: Global, watch: &'w mut W) -> Deepest<'w, W> {
+    pub fn new(alloc: Global, watch: &'w mut W) -> Deepest<'w, W>
+        ensures { W.seconds result.watch.now ≡ W.seconds watch.old }
+    {
         Deepest {
             watch,
             path: Vec::new(alloc),
@@ -41,7 +45,9 @@ impl<'w, W: Watch> Deepest<'w, W> {
     }
 
     /// Keeps the path where it is longer than the longest so far. Each call is copied once at most for each time that it is taken.
-    fn keep_longest(&mut self) {
+    fn keep_longest(&mut self)
+        ensures { W.seconds self.new.watch.now ≡ W.seconds self.old.watch.now }
+    {
         if self.path.len() <= self.longest.len() {
             return;
         }
@@ -57,6 +63,8 @@ impl<'w, W: Watch> Deepest<'w, W> {
 }
 
 impl<'w, W: Watch> Watch for Deepest<'w, W> {
+    ghost seconds = { λ deepest. W.seconds deepest.watch.now };
+
     fn step(&mut self, steps: u64, taken: usize) {
         self.watch.step(steps, taken);
     }
@@ -79,5 +87,9 @@ impl<'w, W: Watch> Watch for Deepest<'w, W> {
         self.keep_longest();
         self.path.pop();
         self.shared = self.shared.min(self.path.len());
+    }
+
+    fn over(&self) -> Option<u64> {
+        self.watch.over()
     }
 }

@@ -11,4 +11,6 @@ pub enum Found {
     GaveUp(u64),
     /// No witness, how many calls were tried, and the identifier of an object that refutes them: no order explains the answers about it.
     Refuted(u64, String),
+    /// No witness: how many calls were tried until the seconds of the search were over, and how many these are.
+    OutOfTime(u64, u64),
 }

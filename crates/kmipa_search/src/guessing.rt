@@ -1,8 +1,9 @@
 //! The search for an order where some call waits for a payload.
 
-ghost use Rattle.std.specs.Prelude.{◌≡◌, ◌≤◌, IfOk, IfSome, length, map};
+ghost use Rattle.std.specs.Prelude.{◌≡◌, ◌≤◌, None, Some, IfOk, IfSome, length, map};
 ghost use Rattle.kmipa_store.specs.Choices.{IsSound};
 ghost use Rattle.kmipa_check.specs.Calls.{call_of};
+ghost use Rattle.kmipa_search.specs.Outcomes.{AreOver};
 ghost use Rattle.kmipa_search.specs.Guessing.{AreReadableOnes, AreRecordedCalls, GuessTried, IsBounded, IsReadableOne, IsRecordedCall, TurnTried};
 
 use crate::candidate::Candidate;
@@ -26,6 +27,8 @@ pub struct Guessed {
     pub turns: Option<Vec<Turn>>,
     /// How many calls were tried.
     pub steps: u64,
+    /// How many seconds the search had, where it ended since they are over.
+    pub over: Option<u64>,
 }
 
 /// Takes the calls one after the other, each time the first next one that leads on with its guesses, depth first.
@@ -39,7 +42,8 @@ pub fn guess_order<L: Ledger, W: Watch>(
 ) -> Result<Guessed, CheckFault>
     requires sound { IsSound (L.state ledger.old).now }
     requires recorded { AreRecordedCalls calls.now }
-    ensures { IfOk result (IsBounded budget) }
+    ensures bounded { IfOk result (IsBounded budget) }
+    ensures over { IfOk result (λ g. AreOver (W.seconds watch.old) g.over) }
 {
     let plain = plain_ones(alloc, calls)?;
     let mut remaining = Remaining::new(alloc, calls)?;
@@ -52,7 +56,10 @@ pub fn guess_order<L: Ledger, W: Watch>(
         match remaining.next(calls, from) {
             Some(place) => {
                 if steps == budget {
-                    return Ok(Guessed { turns: None, steps });
+                    return Ok(given_up(steps));
+                }
+                if let Some(after) = watch.over() {
+                    return Ok(out_of_time(steps, after));
                 }
                 steps += 1;
                 watch.step(steps, path.len());
@@ -70,7 +77,7 @@ pub fn guess_order<L: Ledger, W: Watch>(
             }
             None => {
                 let Some(place) = path.pop() else {
-                    return Ok(Guessed { turns: None, steps });
+                    return Ok(given_up(steps));
                 };
                 turns.pop();
                 ledger.back(Mark { depth });
@@ -84,7 +91,32 @@ pub fn guess_order<L: Ledger, W: Watch>(
     Ok(Guessed {
         turns: Some(turns),
         steps,
+        over: None,
     })
+}
+
+/// What is told where nothing more can be tried.
+#[inline(always)]
+pub fn given_up(steps: u64) -> Guessed
+    ensures { result ≡ record { turns = None; steps = steps; over = None } }
+{
+    Guessed {
+        turns: None,
+        steps,
+        over: None,
+    }
+}
+
+/// What is told where so many seconds are over.
+#[inline(always)]
+pub fn out_of_time(steps: u64, after: u64) -> Guessed
+    ensures { result ≡ record { turns = None; steps = steps; over = Some after } }
+{
+    Guessed {
+        turns: None,
+        steps,
+        over: Some(after),
+    }
 }
 
 /// A call that was taken: the turn that took it, and the depth of the mark after which it was.

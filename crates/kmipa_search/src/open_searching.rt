@@ -7,7 +7,7 @@ ghost use Rattle.kmipa_record.specs.Transcripts.{transcript_of};
 ghost use Rattle.kmipa_check.specs.Calls.{AreCalls, IsRecorded, call_of};
 ghost use Rattle.kmipa_search.specs.Candidates.{AreNotPlain};
 ghost use Rattle.kmipa_search.specs.Guessing.{AreAllRecorded};
-ghost use Rattle.kmipa_search.specs.Found.{Searches};
+ghost use Rattle.kmipa_search.specs.Found.{SearchesIn};
 
 use crate::by_moments::{kept_steps, or_at_moments};
 use crate::by_object::or_refuted;
@@ -50,7 +50,7 @@ pub fn search_open<W: Watch>(
 ) -> Result<Found, CheckFault>
     requires { AreDeclared (declaration_of declaration.now) }
     ensures { AreRecorded (transcript_of transcript.now)
-        → Searches (transcript_of transcript.now) (declaration_of declaration.now) budget result }
+        → SearchesIn (W.seconds watch.old) (transcript_of transcript.now) (declaration_of declaration.now) budget result }
 {
     let calls = read_calls(alloc, transcript)?;
     search_open_calls(alloc, transcript, declaration, &calls, budget, watch)
@@ -69,7 +69,7 @@ pub fn search_open_calls<W: Watch>(
     requires each { All (IsRecorded (transcript_of transcript.now)) (map call_of calls.now) }
     ensures { AreRecorded (transcript_of transcript.now)
         → AreCalls (transcript_of transcript.now) (map call_of calls.now)
-        → Searches (transcript_of transcript.now) (declaration_of declaration.now) budget result }
+        → SearchesIn (W.seconds watch.old) (transcript_of transcript.now) (declaration_of declaration.now) budget result }
 {
     let kept = kept_steps(declaration, calls, budget);
     let answered = search_stamped(alloc, transcript, declaration, calls, kept, watch);
@@ -89,7 +89,7 @@ fn search_stamped<W: Watch>(
     requires each { All (IsRecorded (transcript_of transcript.now)) (map call_of calls.now) }
     ensures { AreRecorded (transcript_of transcript.now)
         → AreCalls (transcript_of transcript.now) (map call_of calls.now)
-        → Searches (transcript_of transcript.now) (declaration_of declaration.now) budget result }
+        → SearchesIn (W.seconds watch.old) (transcript_of transcript.now) (declaration_of declaration.now) budget result }
 {
     check_laws();
     match candidates(alloc, calls)? {
@@ -116,7 +116,7 @@ fn search_unplain<W: Watch>(
     ensures { AreRecorded (transcript_of transcript.now)
         → AreCalls (transcript_of transcript.now) (map call_of calls.now)
         → AreNotPlain (map call_of calls.now)
-        → Searches (transcript_of transcript.now) (declaration_of declaration.now) budget result }
+        → SearchesIn (W.seconds watch.old) (transcript_of transcript.now) (declaration_of declaration.now) budget result }
 {
     if budget > EARLY && !ends_early(alloc, declaration, calls)? {
         if let Some(found) = search_by_turns(alloc, transcript, declaration, calls, true, budget)? {
@@ -162,7 +162,7 @@ fn search_other<W: Watch>(
     ensures { AreRecorded (transcript_of transcript.now)
         → AreCalls (transcript_of transcript.now) (map call_of calls.now)
         → AreNotPlain (map call_of calls.now)
-        → Searches (transcript_of transcript.now) (declaration_of declaration.now) budget result }
+        → SearchesIn (W.seconds watch.old) (transcript_of transcript.now) (declaration_of declaration.now) budget result }
 {
     check_laws();
     let rules = rules_of_declaration(alloc, declaration)?;
@@ -172,6 +172,9 @@ fn search_other<W: Watch>(
         return Err(CheckFault::Memory);
     };
     let steps = guessed.steps;
+    if let Some(after) = guessed.over {
+        return Ok(Found::OutOfTime(steps, after));
+    }
     let turns = guessed.turns;
     match turns {
         Some(turns) => try_witness(alloc, transcript, declaration, Witness { turns }, steps),

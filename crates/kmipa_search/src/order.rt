@@ -7,7 +7,7 @@ ghost use Rattle.kmipa_msgs.specs.Messages.{rules_of};
 ghost use Rattle.kmipa_batch.specs.Readable.{IsReadableCall};
 ghost use Rattle.kmipa_search.specs.Candidates.{candidate_step};
 ghost use Rattle.kmipa_search.specs.Progress.{AllReadable, CallTried, Opens};
-ghost use Rattle.kmipa_search.specs.Outcomes.{KeepsBudget, TellsOutcome, not_taken};
+ghost use Rattle.kmipa_search.specs.Outcomes.{AreOver, KeepsBudget, TellsOutcome, not_taken};
 
 use crate::candidate::Candidate;
 use crate::ends::Ends;
@@ -36,6 +36,8 @@ pub struct Outcome {
     pub order: Option<Vec<usize>>,
     /// How many calls were tried.
     pub steps: u64,
+    /// How many seconds the search had, where it ended since they are over.
+    pub over: Option<u64>,
 }
 
 /// A search on its way.
@@ -76,6 +78,7 @@ pub fn find_order<L: Ledger, W: Watch>(
     ensures tells { (declared : DeclarationOf)
         → Opens declared (rules_of rules.now) (map candidate_step calls.now) (L.state ledger.old).now
         → TellsOutcome declared (map candidate_step calls.now) budget result }
+    ensures over { IfOk result (λ l. AreOver (W.seconds watch.old) l.over) }
 {
     let mut descent = Descent::new(alloc, ledger, calls)?;
     descent.search(alloc, ledger, rules, calls, budget, watch)
@@ -132,12 +135,16 @@ impl Descent {
         ensures tells { (declared : DeclarationOf)
             → Opens declared (rules_of rules.now) (map candidate_step calls.now) (L.state ledger.old).now
             → TellsOutcome declared (map candidate_step calls.now) budget result }
+        ensures over { IfOk result (λ l. AreOver (W.seconds watch.old) l.over) }
     {
         'tries: while self.path.len() < calls.len() {
             match self.pick(calls) {
                 Some(pick) => {
                     if self.steps == budget {
                         return Ok(self.given_up());
+                    }
+                    if let Some(after) = watch.over() {
+                        return Ok(self.out_of_time(after));
                     }
                     self.step(alloc, ledger, rules, calls, pick, watch)?;
                 }
@@ -151,6 +158,7 @@ impl Descent {
         Ok(Outcome {
             order: Some(places(alloc, &self.path)?),
             steps: self.steps,
+            over: None,
         })
     }
 
@@ -198,6 +206,7 @@ impl Descent {
             → IfOk result (λ _. Descends (rules_of rules.now) (map candidate_step calls.now) budget first self.new
             (L.state ledger.new)) }
         ensures moves { MatchResult result (λ _. IsStep self.old self.new) (λ fault. fault ≡ CheckFault.Memory) }
+        ensures watch { W.seconds watch.new ≡ W.seconds watch.old }
     {
         let Pick { place, tried } = pick;
         self.steps += 1;
@@ -239,6 +248,7 @@ impl Descent {
             → IfOk result (λ went. went ≡ true → Descends rules (map candidate_step calls.now) budget first self.new
             (L.state ledger.new)) }
         ensures moves { IfOk result (IsBack self.old self.new) }
+        ensures watch { W.seconds watch.new ≡ W.seconds watch.old }
     {
         let Some(visit) = self.path.pop() else {
             return Ok(false);
@@ -260,11 +270,24 @@ impl Descent {
     /// What is told where nothing more can be tried.
     #[inline(always)]
     fn given_up(&self) -> Outcome
-        ensures { result ≡ record { order = None; steps = self.now.steps } }
+        ensures { result ≡ record { order = None; steps = self.now.steps; over = None } }
     {
         Outcome {
             order: None,
             steps: self.steps,
+            over: None,
+        }
+    }
+
+    /// What is told where so many seconds are over.
+    #[inline(always)]
+    fn out_of_time(&self, after: u64) -> Outcome
+        ensures { result ≡ record { order = None; steps = self.now.steps; over = Some after } }
+    {
+        Outcome {
+            order: None,
+            steps: self.steps,
+            over: Some(after),
         }
     }
 }

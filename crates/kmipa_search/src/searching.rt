@@ -11,7 +11,7 @@ ghost use Rattle.kmipa_search.specs.Candidates.{AreNotPlain, candidate_step};
 ghost use Rattle.kmipa_search.specs.Guessing.{AreRecordedCalls};
 ghost use Rattle.kmipa_search.specs.Plain.{ArePlain};
 ghost use Rattle.kmipa_search.specs.Progress.{AllReadable};
-ghost use Rattle.kmipa_search.specs.Found.{Finds, Searches};
+ghost use Rattle.kmipa_search.specs.Found.{Finds, Searches, SearchesIn};
 ghost use Rattle.kmipa_search.specs.Confirming.{Confirms, IsTried, turns_at};
 
 use crate::accepted::{accepted_order, witness_at};
@@ -74,7 +74,7 @@ pub fn search_watched<W: Watch>(
 ) -> Result<Found, CheckFault>
     requires { AreDeclared (declaration_of declaration.now) }
     ensures { AreRecorded (transcript_of transcript.now)
-        → Searches (transcript_of transcript.now) (declaration_of declaration.now) budget result }
+        → SearchesIn (W.seconds watch.old) (transcript_of transcript.now) (declaration_of declaration.now) budget result }
 {
     let calls = read_calls(alloc, transcript)?;
     search_calls(alloc, transcript, declaration, &calls, budget, watch)
@@ -93,7 +93,7 @@ pub fn search_calls<W: Watch>(
     requires each { All (IsRecorded (transcript_of transcript.now)) (map call_of calls.now) }
     ensures { AreRecorded (transcript_of transcript.now)
         → AreCalls (transcript_of transcript.now) (map call_of calls.now)
-        → Searches (transcript_of transcript.now) (declaration_of declaration.now) budget result }
+        → SearchesIn (W.seconds watch.old) (transcript_of transcript.now) (declaration_of declaration.now) budget result }
 {
     let kept = kept_steps(declaration, calls, budget);
     let answered = search_stamped(alloc, transcript, declaration, calls, kept, watch);
@@ -113,7 +113,7 @@ fn search_stamped<W: Watch>(
     requires each { All (IsRecorded (transcript_of transcript.now)) (map call_of calls.now) }
     ensures { AreRecorded (transcript_of transcript.now)
         → AreCalls (transcript_of transcript.now) (map call_of calls.now)
-        → Searches (transcript_of transcript.now) (declaration_of declaration.now) budget result }
+        → SearchesIn (W.seconds watch.old) (transcript_of transcript.now) (declaration_of declaration.now) budget result }
 {
     check_laws();
     match candidates(alloc, calls)? {
@@ -139,7 +139,7 @@ pub fn search_plain<W: Watch>(
     requires readable { AllReadable (map candidate_step own.now) }
     ensures { (marks : List MarkOf) → AreRecorded marks → AreCalls marks (map call_of calls.now)
         → ArePlain (map call_of calls.now) (map candidate_step own.now)
-        → Searches marks (declaration_of declaration.now) budget result }
+        → SearchesIn (W.seconds watch.old) marks (declaration_of declaration.now) budget result }
 {
     if let Some(found) = search_forthright(alloc, calls, declaration, own, budget)? {
         return Ok(found);
@@ -238,7 +238,7 @@ fn search_step_by_step<W: Watch>(
     requires readable { AllReadable (map candidate_step own.now) }
     ensures { (marks : List MarkOf) → AreRecorded marks → AreCalls marks (map call_of calls.now)
         → ArePlain (map call_of calls.now) (map candidate_step own.now)
-        → Searches marks (declaration_of declaration.now) budget result }
+        → SearchesIn (W.seconds watch.old) marks (declaration_of declaration.now) budget result }
 {
     check_laws();
     let rules = rules_of_declaration(alloc, declaration)?;
@@ -247,6 +247,9 @@ fn search_step_by_step<W: Watch>(
         return Err(CheckFault::Memory);
     };
     let steps = outcome.steps;
+    if let Some(after) = outcome.over {
+        return Ok(Found::OutOfTime(steps, after));
+    }
     let order = outcome.order;
     match order {
         Some(order) => {
@@ -270,7 +273,7 @@ fn search_waiting<W: Watch>(
     requires each { All (IsRecorded (transcript_of transcript.now)) (map call_of calls.now) }
     ensures { AreRecorded (transcript_of transcript.now)
         → AreCalls (transcript_of transcript.now) (map call_of calls.now) → AreNotPlain (map call_of calls.now)
-        → Searches (transcript_of transcript.now) (declaration_of declaration.now) budget result }
+        → SearchesIn (W.seconds watch.old) (transcript_of transcript.now) (declaration_of declaration.now) budget result }
 {
     if budget > EARLY && !waiting_ends_early(alloc, declaration, calls)? {
         if let Some(found) = search_by_turns(
@@ -319,7 +322,7 @@ fn search_left_out<W: Watch>(
     requires each { All (IsRecorded (transcript_of transcript.now)) (map call_of calls.now) }
     ensures { AreRecorded (transcript_of transcript.now)
         → AreCalls (transcript_of transcript.now) (map call_of calls.now) → AreNotPlain (map call_of calls.now)
-        → Searches (transcript_of transcript.now) (declaration_of declaration.now) budget result }
+        → SearchesIn (W.seconds watch.old) (transcript_of transcript.now) (declaration_of declaration.now) budget result }
 {
     let own = every_candidate(alloc, calls)?;
     match all_plain(alloc, &own)? {
@@ -342,7 +345,7 @@ fn search_ended<W: Watch>(
     requires readable { AllReadable (map candidate_step ended.now) }
     ensures { (calls : List CallOf) → AreRecorded (transcript_of transcript.now)
         → AreCalls (transcript_of transcript.now) calls → AreNotPlain calls
-        → Searches (transcript_of transcript.now) (declaration_of declaration.now) budget result }
+        → SearchesIn (W.seconds watch.old) (transcript_of transcript.now) (declaration_of declaration.now) budget result }
 {
     check_laws();
     let rules = rules_of_declaration(alloc, declaration)?;
@@ -351,6 +354,9 @@ fn search_ended<W: Watch>(
         return Err(CheckFault::Memory);
     };
     let steps = tried.steps;
+    if let Some(after) = tried.over {
+        return Ok(Found::OutOfTime(steps, after));
+    }
     let order = tried.order;
     match order {
         Some(order) => {
@@ -374,7 +380,7 @@ fn search_guessing<W: Watch>(
     requires recorded { AreRecordedCalls own.now }
     ensures { (calls : List CallOf) → AreRecorded (transcript_of transcript.now)
         → AreCalls (transcript_of transcript.now) calls → AreNotPlain calls
-        → Searches (transcript_of transcript.now) (declaration_of declaration.now) budget result }
+        → SearchesIn (W.seconds watch.old) (transcript_of transcript.now) (declaration_of declaration.now) budget result }
 {
     check_laws();
     let rules = rules_of_declaration(alloc, declaration)?;
@@ -383,6 +389,9 @@ fn search_guessing<W: Watch>(
         return Err(CheckFault::Memory);
     };
     let steps = guessed.steps;
+    if let Some(after) = guessed.over {
+        return Ok(Found::OutOfTime(steps, after));
+    }
     let turns = guessed.turns;
     match turns {
         Some(turns) => try_witness(alloc, transcript, declaration, Witness { turns }, steps),

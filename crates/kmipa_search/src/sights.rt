@@ -1,7 +1,11 @@
 //! What an item of an open call shows, where it has to have succeeded.
 
-ghost use Rattle.std.specs.Prelude.{◌<◌, IfSome, length};
+ghost use Rattle.std.specs.Prelude.{◌≡◌, ◌<◌, IfSome, length};
+ghost use Rattle.kmipa_object.specs.declared.life.Material.TheVariants.{Secret};
+ghost use Rattle.kmipa_object.specs.declared.life.SecretNo.{SecretNo};
+ghost use Rattle.kmipa_store.specs.Choices.{IsSound};
 
+use crate::stills::known_of;
 use kmipa_attrs::{AttrSet, Filter, ObjectType};
 use kmipa_check::Call;
 use kmipa_msgs::{Answer, Ask, Asked, Payload};
@@ -36,7 +40,9 @@ pub(crate) fn sight_of<L: Ledger>(
     sources: Sources<'_, '_>,
     placeholder: &Placeholder,
     ask: &Ask,
-) -> Result<Sight, AllocError> {
+) -> Result<Sight, AllocError>
+    requires { IsSound (L.state ledger.now).now }
+{
     let row = row_of(&ask.asked);
     if let Effect::Lists(filter) = row.effect {
         return Ok(Sight::Listed(listed(alloc, ledger, filter)?));
@@ -46,7 +52,10 @@ pub(crate) fn sight_of<L: Ledger>(
     };
     let object = ledger.at(place);
     match row.effect {
-        Effect::ShowsBytes => Ok(Sight::Bytes(object.kind, bytes_of(alloc, sources, object)?)),
+        Effect::ShowsBytes => {
+            let bytes = bytes_of(alloc, ledger, sources, object)?;
+            Ok(Sight::Bytes(object.kind, bytes))
+        }
         Effect::ShowsAttributes(_) => Ok(Sight::Attributes(attributes_of(
             alloc,
             object,
@@ -100,13 +109,21 @@ fn attributes_of(alloc: Global, object: &Object, state: State) -> Result<AttrSet
     Ok(shown)
 }
 
-/// The bytes of an object: those that some message shows, or else zeros.
-fn bytes_of(
+/// The bytes of an object: those that are known by now, or that some message shows, or else zeros.
+fn bytes_of<L: Ledger>(
     alloc: Global,
+    ledger: &L,
     sources: Sources<'_, '_>,
     object: &Object,
-) -> Result<Vec<u8>, AllocError> {
-    match known_bytes(sources, object.id.as_str()) {
+) -> Result<Vec<u8>, AllocError>
+    requires { (secret : SecretNo) → object.now.life.material ≡ Secret secret
+        → secret.number < length (L.state ledger.now).now.secrets }
+{
+    let known = match known_of(ledger, object.life.material) {
+        Some(bytes) => Some(bytes),
+        None => known_bytes(sources, object.id.as_str()),
+    };
+    match known {
         Some(bytes) => Vec::from_slice(alloc, bytes),
         None => Vec::from_elem(alloc, 0u8, length_of(object)),
     }

@@ -3,13 +3,14 @@
 ghost use Rattle.std.specs.Prelude.{IfOk};
 ghost use Rattle.kmipa_store.specs.Choices.{IsSound};
 ghost use Rattle.kmipa_search.specs.Guessing.{AreAllRecorded, IsBounded};
+ghost use Rattle.kmipa_search.specs.Outcomes.{AreOver};
 
 use super::place::Place;
 use super::standing::Standing;
 use super::tables::{Attempt, Tables, What};
 use super::turns::try_attempt;
 use crate::ends::Ends;
-use crate::guessing::{Guessed, Taken};
+use crate::guessing::{Guessed, Taken, given_up, out_of_time};
 use crate::idle::is_idle_place;
 use crate::watch::Watch;
 use kmipa_check::CheckFault;
@@ -59,7 +60,8 @@ pub fn find_turns<'b, 'a, L: Ledger, W: Watch>(
 ) -> Result<Guessed, CheckFault>
     requires sound { IsSound (L.state ledger.old).now }
     requires recorded { AreAllRecorded tables.now.calls.now }
-    ensures { IfOk result (IsBounded budget) }
+    ensures bounded { IfOk result (IsBounded budget) }
+    ensures over { IfOk result (λ g. AreOver (W.seconds watch.old) g.over) }
 {
     let mut descent = OpenDescent::new(alloc, tables, ledger.len())?;
     descent.search(alloc, ledger, rules, tables, budget, watch)
@@ -103,19 +105,23 @@ impl<'b> OpenDescent<'b> {
         requires recorded { AreAllRecorded tables.now.calls.now }
         requires descends { Descends self.old (L.state ledger.old) }
         requires few { self.old.steps ≤ budget }
-        ensures { IfOk result (IsBounded budget) }
+        ensures bounded { IfOk result (IsBounded budget) }
+        ensures over { IfOk result (λ g. AreOver (W.seconds watch.old) g.over) }
     {
         'tries: while !self.standing.is_done(tables) {
             match self.place.next(alloc, ledger, tables, &self.standing)? {
                 Some(attempt) => {
                     if self.steps == budget {
-                        return Ok(self.given_up());
+                        return Ok(given_up(self.steps));
+                    }
+                    if let Some(after) = watch.over() {
+                        return Ok(out_of_time(self.steps, after));
                     }
                     self.step(alloc, ledger, rules, tables, attempt, watch)?;
                 }
                 None => {
                     if !self.go_back(alloc, ledger, tables, watch)? {
-                        return Ok(self.given_up());
+                        return Ok(given_up(self.steps));
                     }
                 }
             }
@@ -123,6 +129,7 @@ impl<'b> OpenDescent<'b> {
         Ok(Guessed {
             turns: Some(replace(&mut self.turns, Vec::new(alloc))),
             steps: self.steps,
+            over: None,
         })
     }
 
@@ -140,7 +147,8 @@ impl<'b> OpenDescent<'b> {
         requires recorded { AreAllRecorded tables.now.calls.now }
         requires descends { Descends self.old (L.state ledger.old) }
         requires room { self.old.steps < u64.MAX }
-        ensures { IfOk result (λ _. IsStep self.old self.new (L.state ledger.new)) }
+        ensures moves { IfOk result (λ _. IsStep self.old self.new (L.state ledger.new)) }
+        ensures watch { W.seconds watch.new ≡ W.seconds watch.old }
     {
         self.steps += 1;
         watch.step(self.steps, self.path.len());
@@ -191,7 +199,8 @@ impl<'b> OpenDescent<'b> {
         watch: &mut W,
     ) -> Result<bool, AllocError>
         requires { Descends self.old (L.state ledger.old) }
-        ensures { IfOk result (IsBack self.old self.new (L.state ledger.new)) }
+        ensures moves { IfOk result (IsBack self.old self.new (L.state ledger.new)) }
+        ensures watch { W.seconds watch.new ≡ W.seconds watch.old }
     {
         let Some(visit) = self.path.pop() else {
             return Ok(false);
@@ -206,17 +215,6 @@ impl<'b> OpenDescent<'b> {
         watch.given_back();
         put_back(&mut self.place, tables, visit);
         Ok(true)
-    }
-
-    /// What is told where nothing more can be tried.
-    #[inline(always)]
-    fn given_up(&self) -> Guessed
-        ensures { result ≡ record { turns = None; steps = self.now.steps } }
-    {
-        Guessed {
-            turns: None,
-            steps: self.steps,
-        }
     }
 }
 

@@ -6,6 +6,7 @@ use Rattle.kmipa_msgs.specs.Messages.{rules_of}
 use Rattle.kmipa_search.specs.ByObject.{declared_on, part_step}
 use Rattle.kmipa_search.specs.Candidates.{candidate_step}
 use Rattle.kmipa_search.specs.Progress.{AllReadable, ComesTo}
+use Rattle.kmipa_search.specs.Outcomes.{InTime}
 use Rattle.kmipa_search.specs.declared.candidate.Candidate.{Candidate}
 use Rattle.kmipa_search.proofs.PartLemmas.{declared_part, opens_parts, without_order}
 use Rattle.kmipa_search.proofs.by_object.search_parts.Goals as goal
@@ -28,6 +29,8 @@ returns c = λ orderly is.
     let steps = map candidate_step c.deref-2.result.now in
     let same : steps ≡ parts = ap (λ (xs : List Candidate). map candidate_step xs) c.deref-2.ensures.value ∙ c.in_ok-own.ensures in
     let o = opens_parts id declared (declaration_of c.in_ok-declared.declared) (rules_of c.in_ok-rules.rules) parts steps (state_of_journal c.in_ok-ledger.ledger).now c.check_laws.ensures c.in_ok-declared.ensures c.in_ok-rules.ensures c.in_ok-ledger.ensures.opened same orderly in
+    let T : Option ℕ → Type 0 = λ over. InTime over (ComesTo (declared_on id declared) steps c.args.most (option_map (λ (x : Vec ℕ Global). x.items) c.in_ok-outcome.outcome.order) c.in_ok-outcome.outcome.steps) in
+    let tells = subst T (c.has_decided.ensures.in_time is) (c.in_ok-outcome.ensures.tells (declared_on id declared) o) in
     let P : Option (Vec ℕ Global) → Type 0 = λ v. ComesTo (declared_on id declared) steps c.args.most (option_map (λ (x : Vec ℕ Global). x.items) v) c.in_ok-outcome.outcome.steps in
     without_order (declared_on id declared) steps parts c.args.most c.in_ok-outcome.outcome.steps same
-    (subst P (c.has_decided.ensures.none is) (c.in_ok-outcome.ensures.tells (declared_on id declared) o)) (c.has_decided.ensures.less is)
+    (subst P (c.has_decided.ensures.none is) tells) (c.has_decided.ensures.less is)

@@ -1,4 +1,4 @@
 use Rattle.kmipa_search.proofs.searching.search_calls.Goals as goal
 
 pub returns : goal.returns
-returns g c = λ r are. c.or_at_moments.ensures c.kept_steps-kept.result r c.kept_steps-kept.ensures (c.search_stamped-answered.ensures r are)
+returns g c = λ r are. c.or_at_moments.ensures (g.W.Watch.seconds c.args.watch.now) c.kept_steps-kept.result r c.kept_steps-kept.ensures (c.search_stamped-answered.ensures r are)

@@ -25,4 +25,4 @@ returns-in-None g c = λ r are.
     let calls = map call_of c.args.calls.now in
     let P : Option (Vec Candidate Global) → Type 0 = λ o. MatchOption o (AreNotPlain calls) (λ own. ArePlain calls (map candidate_step own.items)) in
     let not = subst P c.in-None.is c.in_ok-own.ensures in
-    c.or_refuted.ensures (transcript_of c.args.transcript.now) c.args.budget r are (c.search_waiting-answered.ensures r are not)
+    c.or_refuted.ensures (g.W.Watch.seconds c.args.watch.now) (transcript_of c.args.transcript.now) c.args.budget r are (c.search_waiting-answered.ensures r are not)

@@ -4,7 +4,7 @@ use Rattle.std.proofs.lemmas.List.{length-map, length-reverse, reverse-reverse}
 use Rattle.kmipa_msgs.specs.Messages.{rules_of}
 use Rattle.kmipa_search.specs.Candidates.{candidate_step}
 use Rattle.kmipa_search.specs.Descents.{Progress, IsBack}
-use Rattle.kmipa_search.specs.Outcomes.{KeepsBudget}
+use Rattle.kmipa_search.specs.Outcomes.{InTime, KeepsBudget}
 use Rattle.kmipa_search.specs.Progress.{AreBegun, ComesTo, places}
 use Rattle.kmipa_search.specs.Tries.{IsPick, IsPicked}
 use Rattle.kmipa_search.specs.declared.order.Outcome.{Outcome}
@@ -17,7 +17,7 @@ pub returns-then-self-budget-clause-tells : goal.returns-then-self-budget-clause
 returns-then-self-budget-clause-tells g c = λ declared o.
     let calls = map candidate_step c.args.calls.now in
     let s = c.tries.self in
-    let d = c.tries.invariant in
+    let d = c.tries.invariant.descends in
     let W = s.wishes in
     let visits = reverse s.path.items in
     let rules = rules_of c.args.rules.now in
@@ -25,7 +25,7 @@ returns-then-self-budget-clause-tells g c = λ declared o.
     let u = g.L.Ledger.state c.tries.ledger in
     let ranks = wishes_above (length calls) (length calls) W refl d.ranked in
     let f : AreBegun calls → IsPick calls (places visits) W.rank.items s.tried c.in-Some.pick.place c.in-Some.pick.tried = c.in-Some.ensures.picked rules c.args.budget first u d in
-    let P : Outcome → Type 0 = λ l. ComesTo declared calls c.args.budget (option_map (λ (v : Vec ℕ Global). v.items) l.order) l.steps in
+    let P : Outcome → Type 0 = λ l. InTime l.over (ComesTo declared calls c.args.budget (option_map (λ (v : Vec ℕ Global). v.items) l.order) l.steps) in
     subst P (sym c.given_up.ensures)
     (progress_stop rules calls W.rank.items ranks c.args.budget first s.remaining visits s.tried s.depth s.steps u d.progress
     c.in-Some.pick.place c.in-Some.pick.tried f c.if-self-budget.true declared o
@@ -34,30 +34,33 @@ returns-then-self-budget-clause-tells g c = λ declared o.
 pub returns-then-self-budget-clause-bounded : goal.returns-then-self-budget-clause-bounded
 returns-then-self-budget-clause-bounded g c =
     let P : Outcome → Type 0 = λ l. KeepsBudget c.args.budget l in
-    subst P (sym c.given_up.ensures) (c.tries.invariant.progress.few, tt)
+    subst P (sym c.given_up.ensures) (c.tries.invariant.descends.progress.few, tt)
 
 pub tries-preserved-in_ok-step-in-Some : goal.tries-preserved-in_ok-step-in-Some
-tries-preserved-in_ok-step-in-Some g c =
-    let d = c.tries.invariant in
-    let first = (g.L.Ledger.state c.args.ledger.now).now in
-    c.in_ok-step-in-Some.ensures.descends first c.args.budget d (c.in-Some.ensures.picked (rules_of c.args.rules.now) c.args.budget first (g.L.Ledger.state c.tries.ledger) d)
-    (let few = d.progress.few in let differ = c.if-self-budget.false in omega (arith, few, differ))
+tries-preserved-in_ok-step-in-Some g c = record {
+  descends = (
+      let d = c.tries.invariant.descends in
+      let first = (g.L.Ledger.state c.args.ledger.now).now in
+      c.in_ok-step-in-Some.ensures.descends first c.args.budget d (c.in-Some.ensures.picked (rules_of c.args.rules.now) c.args.budget first (g.L.Ledger.state c.tries.ledger) d)
+      (let few = d.progress.few in let differ = c.if-self-budget.false in omega (arith, few, differ)));
+  watch = c.in_ok-step-in-Some.ensures.watch ∙ c.tries.invariant.watch;
+}
 
 pub go_back-requires-clause-deep : goal.go_back-requires-clause-deep
-go_back-requires-clause-deep g c = λ some. c.tries.invariant.progress.deep (omega (arith, some, length-reverse c.tries.self.path.items))
+go_back-requires-clause-deep g c = λ some. c.tries.invariant.descends.progress.deep (omega (arith, some, length-reverse c.tries.self.path.items))
 
 pub go_back-requires-clause-marked : goal.go_back-requires-clause-marked
 go_back-requires-clause-marked g c = λ some.
     let visits = reverse c.tries.self.path.items in
     let long : 0 < length visits = omega (arith, some, length-reverse c.tries.self.path.items) in
-    let there = some_behind (places visits) (g.L.Ledger.state c.tries.ledger).marks (omega (arith, long, length-map visits (λ (x : Visit). x.place))) c.tries.invariant.progress.after in
-    omega (arith, c.tries.invariant.progress.deep long, there)
+    let there = some_behind (places visits) (g.L.Ledger.state c.tries.ledger).marks (omega (arith, long, length-map visits (λ (x : Visit). x.place))) c.tries.invariant.descends.progress.after in
+    omega (arith, c.tries.invariant.descends.progress.deep long, there)
 
 pub returns-then-not-branch-clause-tells : goal.returns-then-not-branch-clause-tells
 returns-then-not-branch-clause-tells g c = λ declared o.
     let calls = map candidate_step c.args.calls.now in
     let s = c.tries.self in
-    let d = c.tries.invariant in
+    let d = c.tries.invariant.descends in
     let W = s.wishes in
     let rules = rules_of c.args.rules.now in
     let first = (g.L.Ledger.state c.args.ledger.now).now in
@@ -70,7 +73,7 @@ returns-then-not-branch-clause-tells g c = λ declared o.
     let N : List Visit → Type 0 = λ xs. IsPicked calls (places (reverse xs)) W.rank.items s.tried None in
     let none : AreBegun calls → IsPicked calls [] W.rank.items s.tried None = λ b. subst N empty (c.in-None.ensures.picked rules c.args.budget first u d b) in
     let S : ℕ → Type 0 = λ n. ComesTo declared calls c.args.budget None n in
-    let P : Outcome → Type 0 = λ l. ComesTo declared calls c.args.budget (option_map (λ (v : Vec ℕ Global). v.items) l.order) l.steps in
+    let P : Outcome → Type 0 = λ l. InTime l.over (ComesTo declared calls c.args.budget (option_map (λ (v : Vec ℕ Global). v.items) l.order) l.steps) in
     subst P (sym c.given_up-then-not-branch.ensures)
     (subst S (sym back.0)
     (progress_end rules calls W.rank.items ranks c.args.budget first s.remaining s.tried s.depth s.steps u (subst T empty d.progress) none
@@ -81,17 +84,20 @@ returns-then-not-branch-clause-bounded g c =
     let s = c.tries.self in
     let B : Bool → Type 0 = λ b. IsBack s c.go_back.new.self b in
     let back : IsBack s c.go_back.new.self false = subst B c.if-not-branch.true c.in_ok-go_back-in-None.ensures.moves in
-    let few = c.tries.invariant.progress.few in
+    let few = c.tries.invariant.descends.progress.few in
     let P : Outcome → Type 0 = λ l. KeepsBudget c.args.budget l in
     subst P (sym c.given_up-then-not-branch.ensures) (omega (arith, few, back.0), tt)
 
 pub tries-preserved : goal.tries-preserved
-tries-preserved g c =
-    let d = c.tries.invariant in
-    let rules = rules_of c.args.rules.now in
-    let first = (g.L.Ledger.state c.args.ledger.now).now in
-    c.in_ok-go_back-in-None.ensures.descends rules first c.args.budget d (c.in-None.ensures.picked rules c.args.budget first (g.L.Ledger.state c.tries.ledger) d)
-    (omega (arith, c.tries-test.true, c.len.ensures)) c.if-not-branch.false
+tries-preserved g c = record {
+  descends = (
+      let d = c.tries.invariant.descends in
+      let rules = rules_of c.args.rules.now in
+      let first = (g.L.Ledger.state c.args.ledger.now).now in
+      c.in_ok-go_back-in-None.ensures.descends rules first c.args.budget d (c.in-None.ensures.picked rules c.args.budget first (g.L.Ledger.state c.tries.ledger) d)
+      (omega (arith, c.tries-test.true, c.len.ensures)) c.if-not-branch.false);
+  watch = c.in_ok-go_back-in-None.ensures.watch ∙ c.tries.invariant.watch;
+}
 
 pub returns-clause-within : goal.returns-clause-within
 returns-clause-within g c =
@@ -99,12 +105,12 @@ returns-clause-within g c =
     let same = places_reversed c.tries.self.path.items ∙ ap places (sym c.deref.ensures.value) ∙ sym c.in_ok-places.ensures in
     let e : reverse c.in_ok-places.field-0.items ≡ places visits = ap reverse (sym same) ∙ reverse-reverse (places visits) in
     within_reversed (length c.args.calls.now) c.in_ok-places.field-0.items
-    (λ p has. let P : List ℕ → Type 0 = λ ps. Contains ps p in let below = c.tries.invariant.progress.within p (subst P e has) in omega (arith, below, length-map c.args.calls.now candidate_step))
+    (λ p has. let P : List ℕ → Type 0 = λ ps. Contains ps p in let below = c.tries.invariant.descends.progress.within p (subst P e has) in omega (arith, below, length-map c.args.calls.now candidate_step))
 
 pub returns-clause-bounded : goal.returns-clause-bounded
 returns-clause-bounded g c =
     let s = c.tries.self in
-    let d = c.tries.invariant in
+    let d = c.tries.invariant.descends in
     let paid = d.paid in (
       d.progress.few,
       omega (arith, paid, ap length c.in_ok-places.ensures, length-map s.path.items (λ (v : Visit). v.place), ap (λ (vs : List Visit). length (places vs)) c.deref.ensures.value),
@@ -114,7 +120,7 @@ pub returns-clause-tells : goal.returns-clause-tells
 returns-clause-tells g c = λ declared o.
     let calls = map candidate_step c.args.calls.now in
     let s = c.tries.self in
-    let d = c.tries.invariant in
+    let d = c.tries.invariant.descends in
     let W = s.wishes in
     let ranks = wishes_above (length calls) (length calls) W refl d.ranked in
     let P : List ℕ → Type 0 = λ xs. ComesTo declared calls c.args.budget (Some xs) s.steps in

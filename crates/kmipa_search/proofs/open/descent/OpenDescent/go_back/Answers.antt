@@ -9,8 +9,8 @@ use Rattle.kmipa_search.proofs.open.descent.OpenDescent.go_back.Goals as goal
 pub back-requires : goal.back-requires
 back-requires g c = c.requires.deep (omega (arith, ap length c.in-Some.ensures.items, length-append c.pop.new.self.items (c.in-Some.visit ∷ [])))
 
-pub returns : goal.returns
-returns g c =
+pub returns-clause-moves : goal.returns-clause-moves
+returns-clause-moves g c =
     let d = c.args.self.now in
     let long : length d.path.items ≡ suc (length c.pop.new.self.items) = omega (arith, ap length c.in-Some.ensures.items, length-append c.pop.new.self.items (c.in-Some.visit ∷ [])) in
     let old : length d.turns.items ≡ vec_len d.turns = search rules in

@@ -1,4 +1,4 @@
-use Rattle.std.proofs.Common.{◌≤◌, ◌+◌, ◌-◌, ◌*◌, length}
+use Rattle.std.proofs.Common.{◌≡◌, ◌≤◌, ◌+◌, ◌-◌, ◌*◌, length}
 use Rattle.kmipa_search.specs.OpenDescents.{Descends}
 use Rattle.kmipa_search.proofs.open.descent.OpenDescent.search.Given as goal
 
@@ -6,6 +6,7 @@ abbrev pub invariant-tries : goal.invariant-tries
 invariant-tries g l = record {
   descends : Descends l.self (g.L.Ledger.state l.ledger);
   few : l.self.steps ≤ l.budget;
+  watch : g.W.Watch.seconds l.watch ≡ g.W.Watch.seconds l.fn.watch;
 }
 
 abbrev pub decreases-tries : goal.decreases-tries

@@ -4,8 +4,8 @@ use Rattle.kmipa_search.specs.declared.guessing.Taken.{Taken}
 use Rattle.kmipa_search.proofs.DescentLemmas.{descends_taken}
 use Rattle.kmipa_search.proofs.open.descent.OpenDescent.step.Goals as goal
 
-pub returns : goal.returns
-returns g c =
+pub returns-clause-moves : goal.returns-clause-moves
+returns-clause-moves g c =
     let d = c.args.self.now in
     let u = g.L.Ledger.state c.args.ledger.now in
     let v = g.L.Ledger.state c.try_attempt.new.ledger in
