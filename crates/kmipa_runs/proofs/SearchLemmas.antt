@@ -16,9 +16,9 @@ use Rattle.kmipa_record.specs.declared.witness.Witness.{Witness}
 use Rattle.kmipa_check.specs.Audits.{AreAccepted}
 use Rattle.kmipa_check.specs.declared.auditing.AuditFault.{AuditFault}
 use Rattle.kmipa_check.specs.declared.fault.CheckFault.{CheckFault}
-use Rattle.kmipa_search.specs.Found.{Finds}
+use Rattle.kmipa_search.specs.Found.{FindsIn}
 use Rattle.kmipa_search.specs.declared.found.Found.{Found}
-use Rattle.kmipa_search.specs.declared.found.Found.TheVariants.{Yes, GaveUp, Refuted}
+use Rattle.kmipa_search.specs.declared.found.Found.TheVariants.{Yes, GaveUp, Refuted, OutOfTime}
 use Rattle.kmipa_runs.specs.Lines.{PrintsFault}
 use Rattle.kmipa_runs.specs.Searches.{found_status, found_text, forced_text, AreSearched, AreUnsearched, Makes, PrintsSearch, SearchesRecords}
 use Rattle.kmipa_runs.specs.Statuses.{IsSilent}
@@ -31,12 +31,12 @@ use Rattle.kmipa_runs.proofs.AppendLemmas.{since}
 -- ---- the inputs
 
 -- what was found in the two records that were read
-pub searched_files : {R : Type 0} (ti di : Input R) (t d : List ℕ) (transcript : Transcript) (declaration : Declaration) (searched : Searched) (budget : ℕ) (asked : Bool)
+pub searched_files : {R : Type 0} (ti di : Input R) (t d : List ℕ) (transcript : Transcript) (declaration : Declaration) (searched : Searched) (seconds budget : ℕ) (asked : Bool)
     → IsFileOf t ti → IsFileOf d di → IsTranscript (came_of ti) (transcript_of transcript) × IsTrue (is_ended ti)
     → IsDeclaration (came_of di) (declaration_of declaration) × IsTrue (is_ended di)
-    → (AreRecorded (transcript_of transcript) → SearchesRecords (transcript_of transcript) (declaration_of declaration) budget asked (Ok searched))
-    → AreSearched searched t d budget asked
-searched_files ti di t d transcript declaration searched budget asked tf df p q searches = record {
+    → (AreRecorded (transcript_of transcript) → SearchesRecords (transcript_of transcript) (declaration_of declaration) seconds budget asked (Ok searched))
+    → AreSearched searched t d seconds budget asked
+searched_files ti di t d transcript declaration searched seconds budget asked tf df p q searches = record {
   marks = transcript_of transcript;
   transcript = whole_file t ti (λ bytes. IsTranscript bytes (transcript_of transcript)) p.1 tf p.0;
   declared = declaration_of declaration;
@@ -46,12 +46,12 @@ searched_files ti di t d transcript declaration searched budget asked tf df p q 
 }
 
 -- a fault of them
-pub unsearched_files : {R : Type 0} (ti di : Input R) (t d : List ℕ) (transcript : Transcript) (declaration : Declaration) (fault : CheckFault) (budget : ℕ) (asked : Bool)
+pub unsearched_files : {R : Type 0} (ti di : Input R) (t d : List ℕ) (transcript : Transcript) (declaration : Declaration) (fault : CheckFault) (seconds budget : ℕ) (asked : Bool)
     → IsFileOf t ti → IsFileOf d di → IsTranscript (came_of ti) (transcript_of transcript) × IsTrue (is_ended ti)
     → IsDeclaration (came_of di) (declaration_of declaration) × IsTrue (is_ended di)
-    → (AreRecorded (transcript_of transcript) → SearchesRecords (transcript_of transcript) (declaration_of declaration) budget asked (Err fault))
+    → (AreRecorded (transcript_of transcript) → SearchesRecords (transcript_of transcript) (declaration_of declaration) seconds budget asked (Err fault))
     → AreUnsearched fault t d
-unsearched_files ti di t d transcript declaration fault budget asked tf df p q searches = record {
+unsearched_files ti di t d transcript declaration fault seconds budget asked tf df p q searches = record {
   marks = transcript_of transcript;
   transcript = whole_file t ti (λ bytes. IsTranscript bytes (transcript_of transcript)) p.1 tf p.0;
   declared = declaration_of declaration;
@@ -94,17 +94,18 @@ reported_nothing searched reported witness count said lines old new is ended (in
 -- ---- status 0
 
 -- status 0 is reported where a witness was found, and of it alone
-pub done_is_accepted : (searched : Searched) (t d : List ℕ) (budget : ℕ) (asked : Bool) (said : Status) (lines made : List ℕ) → AreSearched searched t d budget asked
+pub done_is_accepted : (searched : Searched) (t d : List ℕ) (seconds budget : ℕ) (asked : Bool) (said : Status) (lines made : List ℕ) → AreSearched searched t d seconds budget asked
     → PrintsSearch (Ok searched) said lines made ⊎ (IsSilent said lines × (made ≡ [])) → said ≡ status.Done → AreAccepted t d made
-done_is_accepted searched t d budget asked said lines made a (inr p) done = let clash : status.Failed ≡ status.Done = sym p.0.0 ∙ done in absurd cc
-done_is_accepted searched t d budget asked said lines made a (inl p) done = go searched.found refl
+done_is_accepted searched t d seconds budget asked said lines made a (inr p) done = let clash : status.Failed ≡ status.Done = sym p.0.0 ∙ done in absurd cc
+done_is_accepted searched t d seconds budget asked said lines made a (inl p) done = go searched.found refl
   where
     go : (f : Found) → searched.found ≡ f → AreAccepted t d made
     go (GaveUp count) e = let clash : status.GaveUp ≡ status.Done = sym (ap found_status e) ∙ sym p.0 ∙ done in absurd cc
+    go (OutOfTime count after) e = let clash : status.GaveUp ≡ status.Done = sym (ap found_status e) ∙ sym p.0 ∙ done in absurd cc
     go (Refuted count object) e = let clash : status.GaveUp ≡ status.Done = sym (ap found_status e) ∙ sym p.0 ∙ done in absurd cc
     go (Yes witness count) e =
         let M : Found → Type 0 = λ f. Makes f made in
-        let F : Found → Type 0 = λ f. Finds a.marks a.declared budget f in
+        let F : Found → Type 0 = λ f. FindsIn seconds a.marks a.declared budget f in
         record {
           marks = a.marks;
           transcript = a.transcript;

@@ -13,9 +13,9 @@ use Rattle.kmipa_check.specs.declared.auditing.AuditFault.TheVariants as audit
 use Rattle.kmipa_check.specs.declared.fault.CheckFault.{CheckFault}
 use Rattle.kmipa_check.specs.declared.fault.CheckFault.TheVariants as check
 use Rattle.kmipa_search.specs.Forced.{TellsForced}
-use Rattle.kmipa_search.specs.Found.{Finds}
+use Rattle.kmipa_search.specs.Found.{FindsIn}
 use Rattle.kmipa_search.specs.declared.found.Found.{Found}
-use Rattle.kmipa_search.specs.declared.found.Found.TheVariants.{Yes, GaveUp, Refuted}
+use Rattle.kmipa_search.specs.declared.found.Found.TheVariants.{Yes, GaveUp, Refuted, OutOfTime}
 use Rattle.kmipa_runs.specs.Lines.{line, PrintsFault}
 use Rattle.kmipa_runs.specs.declared.searched.Looked.{Looked}
 use Rattle.kmipa_runs.specs.declared.searched.Searched.{Searched}
@@ -35,17 +35,20 @@ abbrev pub found_text : Found → List ℕ
 found_text (Yes witness count) = line (codes "yes: " ∷ decimal count ∷ codes " steps" ∷ [])
 found_text (GaveUp count) = line (codes "gave up: " ∷ decimal count ∷ codes " steps" ∷ [])
 found_text (Refuted count object) = line (codes "gave up: " ∷ decimal count ∷ codes " steps" ∷ [])
+found_text (OutOfTime count after) = line (codes "gave up: " ∷ decimal count ∷ codes " steps" ∷ [])
 
 abbrev pub found_status : Found → Status
 found_status (Yes witness count) = status.Done
 found_status (GaveUp count) = status.GaveUp
 found_status (Refuted count object) = status.GaveUp
+found_status (OutOfTime count after) = status.GaveUp
 
 -- what is made of it: a file of the witness, or nothing
 abbrev pub Makes : Found → List ℕ → Type 0
 Makes (Yes witness count) made = IsWitness made (witness_of witness)
 Makes (GaveUp count) made = made ≡ []
 Makes (Refuted count object) made = made ≡ []
+Makes (OutOfTime count after) made = made ≡ []
 
 -- ---- what is searched
 
@@ -55,14 +58,14 @@ IsForcedTold marks true (Some forced) = TellsForced marks (Ok forced)
 IsForcedTold marks true None = ⊥
 IsForcedTold marks false reported = reported ≡ None
 
--- a search of these records found this
-pub record AreSearched (searched : Searched) (t d : List ℕ) (budget : ℕ) (asked : Bool) : Type 0 where
+-- a search of these records found this, in so many seconds or in all the time that it took
+pub record AreSearched (searched : Searched) (t d : List ℕ) (seconds budget : ℕ) (asked : Bool) : Type 0 where
   pub marks : List MarkOf
   pub transcript : IsTranscript t marks
   pub declared : DeclarationOf
   pub declaration : IsDeclaration d declared
   pub forced : IsForcedTold marks asked searched.forced
-  pub found : Finds marks declared budget searched.found
+  pub found : FindsIn seconds marks declared budget searched.found
 
 -- a message of the transcript is the first outside, or memory ran out
 abbrev pub SearchStops : List MarkOf → CheckFault → Type 0
@@ -71,9 +74,9 @@ SearchStops marks (check.Witness f) = ⊥
 SearchStops marks check.Memory = Unit {0}
 
 -- what a search of records answers
-abbrev pub SearchesRecords : List MarkOf → DeclarationOf → ℕ → Bool → Result Searched CheckFault → Type 0
-SearchesRecords marks declared budget asked (Ok searched) = IsForcedTold marks asked searched.forced × Finds marks declared budget searched.found
-SearchesRecords marks declared budget asked (Err fault) = SearchStops marks fault
+abbrev pub SearchesRecords : List MarkOf → DeclarationOf → ℕ → ℕ → Bool → Result Searched CheckFault → Type 0
+SearchesRecords marks declared seconds budget asked (Ok searched) = IsForcedTold marks asked searched.forced × FindsIn seconds marks declared budget searched.found
+SearchesRecords marks declared seconds budget asked (Err fault) = SearchStops marks fault
 
 -- and what is reported first
 abbrev pub TellsIfForced : List MarkOf → Bool → Result (Option Bool) CheckFault → Type 0
@@ -96,9 +99,9 @@ SearchFails t d failed_t failed_d (audit.Witness f) = ⊥
 SearchFails t d failed_t failed_d (audit.Check f) = AreUnsearched f t d
 
 -- what a search of two files answers
-abbrev pub SearchesFiles : List ℕ → List ℕ → Bool → Bool → ℕ → Bool → Result Searched AuditFault → Type 0
-SearchesFiles t d failed_t failed_d budget asked (Ok searched) = AreSearched searched t d budget asked
-SearchesFiles t d failed_t failed_d budget asked (Err fault) = SearchFails t d failed_t failed_d fault
+abbrev pub SearchesFiles : List ℕ → List ℕ → Bool → Bool → ℕ → ℕ → Bool → Result Searched AuditFault → Type 0
+SearchesFiles t d failed_t failed_d seconds budget asked (Ok searched) = AreSearched searched t d seconds budget asked
+SearchesFiles t d failed_t failed_d seconds budget asked (Err fault) = SearchFails t d failed_t failed_d fault
 
 -- what was found without what the transcript is known by
 abbrev pub searched_alone : Result Looked AuditFault → Result Searched AuditFault

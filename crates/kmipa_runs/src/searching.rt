@@ -9,7 +9,7 @@ ghost use Rattle.kmipa_record.specs.Transcripts.{transcript_of};
 ghost use Rattle.kmipa_record.specs.Witnesses.{witness_of, IsWitness};
 ghost use Rattle.kmipa_check.specs.Audits.{AreAccepted};
 ghost use Rattle.kmipa_check.specs.Calls.{AreCalls, IsRecorded, call_of};
-ghost use Rattle.kmipa_search.specs.Found.{Searches};
+ghost use Rattle.kmipa_search.specs.Found.{SearchesIn};
 ghost use Rattle.kmipa_runs.specs.Knowing.{Known, KnowsSeals};
 ghost use Rattle.kmipa_runs.specs.Searches.{found_status, found_text, forced_text, PrintsSearch, SearchesFiles, SearchesRecords, TellsIfForced, searched_alone};
 ghost use Rattle.kmipa_runs.specs.Statuses.{IsSilent};
@@ -51,7 +51,8 @@ pub fn search_run<R: Read, W: Watch>(
     // What is made and printed tells what a search answers of whatever the inputs may be, or memory ran out.
     ensures prints { (outcome : Result Searched AuditFault)
         × ((t d : List ℕ) → IsFileOf t transcript.new → IsFileOf d declaration.new
-        → SearchesFiles t d (is_failed transcript.new) (is_failed declaration.new) budget forced outcome)
+        → SearchesFiles t d (is_failed transcript.new) (is_failed declaration.new)
+        (W.seconds watch.old) budget forced outcome)
         × (PrintsSearch outcome result.status (appended_bytes out.old.items out.new.items)
         (appended_bytes made.old.items made.new.items)
         ⊎ (IsSilent result.status (appended_bytes out.old.items out.new.items)
@@ -92,7 +93,8 @@ fn search_inputs<R: Read, W: Watch>(
     requires transcript { came_of transcript.old ≡ [] }
     requires declaration { came_of declaration.old ≡ [] }
     ensures searches { (t d : List ℕ) → IsFileOf t transcript.new → IsFileOf d declaration.new
-        → SearchesFiles t d (is_failed transcript.new) (is_failed declaration.new) budget forced
+        → SearchesFiles t d (is_failed transcript.new) (is_failed declaration.new)
+        (W.seconds watch.old) budget forced
         (searched_alone result) }
     ensures known { IfOk result (λ looked. Known (came_of transcript.new) looked.head) }
     ensures ended { OnOk result (IsTrue (is_ended transcript.new) × IsTrue (is_ended declaration.new)) }
@@ -125,7 +127,8 @@ fn search_at_last<W: Watch>(
 ) -> Result<Searched, CheckFault>
     requires { AreDeclared (declaration_of declaration.now) }
     ensures { AreRecorded (transcript_of transcript)
-        → SearchesRecords (transcript_of transcript) (declaration_of declaration.now) budget asked result }
+        → SearchesRecords (transcript_of transcript) (declaration_of declaration.now)
+        (W.seconds watch.old) budget asked result }
 {
     let forced = if_forced(alloc, &transcript, asked)?;
     let calls = read_calls(alloc, &transcript)?;
@@ -150,7 +153,8 @@ pub fn search_records<W: Watch>(
 ) -> Result<Searched, CheckFault>
     requires { AreDeclared (declaration_of declaration.now) }
     ensures { AreRecorded (transcript_of transcript.now)
-        → SearchesRecords (transcript_of transcript.now) (declaration_of declaration.now) budget forced result }
+        → SearchesRecords (transcript_of transcript.now) (declaration_of declaration.now)
+        (W.seconds watch.old) budget forced result }
 {
     let forced = if_forced(alloc, transcript, forced)?;
     let calls = read_calls(alloc, transcript)?;
@@ -172,7 +176,8 @@ fn search_as_asked<W: Watch>(
     requires each { All (IsRecorded (transcript_of transcript.now)) (map call_of calls.now) }
     ensures { AreRecorded (transcript_of transcript.now)
         → AreCalls (transcript_of transcript.now) (map call_of calls.now)
-        → Searches (transcript_of transcript.now) (declaration_of declaration.now) budget result }
+        → SearchesIn (W.seconds watch.old) (transcript_of transcript.now)
+        (declaration_of declaration.now) budget result }
 {
     if open {
         search_open_calls(alloc, transcript, declaration, calls, budget, watch)
@@ -219,6 +224,7 @@ pub fn tell_searched(
         Found::Yes(witness, _) => tell_witness(alloc, witness, &lines, out, made),
         Found::GaveUp(_) => append(Ok(lines), out),
         Found::Refuted(_, _) => append(Ok(lines), out),
+        Found::OutOfTime(_, _) => append(Ok(lines), out),
     }
 }
 
@@ -281,10 +287,11 @@ fn found_lines(alloc: Global, found: &Found) -> Result<Lines, AllocError>
         }),
         Found::GaveUp(count) => gave_up_line(alloc, *count),
         Found::Refuted(count, _) => gave_up_line(alloc, *count),
+        Found::OutOfTime(count, _) => gave_up_line(alloc, *count),
     }
 }
 
-/// The line of a search that gave up.
+/// The line of a search that gave up, or whose time was over.
 fn gave_up_line(alloc: Global, count: u64) -> Result<Lines, AllocError>
     ensures { IfOk result
         (λ lines. (lines.status ≡ found_status (Found.GaveUp count)) × (string_bytes lines.text ≡ found_text (Found.GaveUp count))) }

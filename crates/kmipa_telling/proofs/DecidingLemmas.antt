@@ -15,11 +15,11 @@ use Rattle.kmipa_check.specs.declared.fault.CheckFault.TheVariants.{Memory}
 use Rattle.kmipa_check.specs.Steps.{StepOf, NeedsFill, step_with}
 use Rattle.kmipa_check.proofs.RecordedLemmas.{same_calls}
 use Rattle.kmipa_search.specs.Forced.{TellsForced}
-use Rattle.kmipa_search.specs.Found.{Finds, HasDecided, stopped, enough, one_by_one}
+use Rattle.kmipa_search.specs.Found.{Finds, FindsIn, HasDecided, stopped, enough, one_by_one}
 use Rattle.kmipa_search.specs.Plain.{ArePlain, IsForced}
 use Rattle.kmipa_search.specs.declared.found.Found.{Found}
-use Rattle.kmipa_search.specs.Reached.{HaveSteps}
-use Rattle.kmipa_search.specs.declared.found.Found.TheVariants.{GaveUp, Refuted}
+use Rattle.kmipa_search.specs.Reached.{HaveSteps, TellsReached}
+use Rattle.kmipa_search.specs.declared.found.Found.TheVariants.{GaveUp, Refuted, OutOfTime}
 use Rattle.kmipa_search.specs.declared.stuck.Reached.{Reached}
 use Rattle.kmipa_runs.specs.Searches.{SearchStops, SearchesRecords}
 use Rattle.kmipa_runs.specs.declared.searched.Searched.{Searched}
@@ -84,6 +84,7 @@ decided_said g calls budget count (decision.Tolerant seconds) under decided = (d
 decided_said g calls budget count (decision.UsedUp steps) under decided = absurd under
 decided_said g calls budget count (decision.NotPlain numbers) under decided = absurd under
 decided_said g calls budget count (decision.OneObject object) under decided = absurd under
+decided_said g calls budget count (decision.OutOfTime seconds) under decided = absurd under
 
 module _ (marks : List MarkOf) (g : GrantsOf) (calls : List CallOf) (budget count : ℕ) (are : AreCalls marks calls) (plain : (steps : List StepOf) × ArePlain calls steps) where
   pub early_decides : (said : Decision) → IsDecidedUnder g said → count < budget → TellsDecision marks g budget count (Ok said)
@@ -129,12 +130,12 @@ decided_means marks declared budget count said recorded finds tells = (
 pub memory_stops : (marks : List MarkOf) (fault : CheckFault) → fault ≡ Memory → SearchStops marks fault
 memory_stops marks fault is = let P : CheckFault → Type 0 = λ f. SearchStops marks f in subst P (sym is) tt
 
-pub given_up_told : (marks : List MarkOf) (declared : DeclarationOf) (budget : ℕ) (asked : Bool) (searched : Searched) → SearchesRecords marks declared budget asked (Ok searched)
+pub given_up_told : (marks : List MarkOf) (declared : DeclarationOf) (seconds budget : ℕ) (asked : Bool) (searched : Searched) → SearchesRecords marks declared seconds budget asked (Ok searched)
     → (count : ℕ) (said : Decision) (place : Option Reached) → AreRecorded marks → searched.found ≡ GaveUp count → TellsDecision marks (grants_declared declared) budget count (Ok said)
     → TellsPlace marks declared (Some said) place
-    → DecidesRecords marks declared budget asked (Ok (record { searched = searched; decision = Some said; reached = place }))
-given_up_told marks declared budget asked searched searches count said place recorded is tells stuck =
-    let F : Found → Type 0 = λ f. Finds marks declared budget f in
+    → DecidesRecords marks declared seconds budget asked (Ok (record { searched = searched; decision = Some said; reached = place }))
+given_up_told marks declared seconds budget asked searched searches count said place recorded is tells stuck =
+    let F : Found → Type 0 = λ f. FindsIn seconds marks declared budget f in
     let T : Found → Type 0 = λ f. TellsGivingUp marks declared budget f (Some said) in
     (searches, subst T (sym is) (decided_means marks declared budget count said recorded (subst F is searches.1) tells), stuck)
 
@@ -148,25 +149,50 @@ no_unplain (c ∷ calls) (s ∷ steps) numbers plain (inl p) = no_unplain calls 
 no_unplain (c ∷ calls) (s ∷ steps) numbers plain (inr p) = absurd (p.0 (plain.0.response, plain.0.plain))
 
 -- the deepest place is told where the calls are plain
-object_place : (marks : List MarkOf) (declared : DeclarationOf) (budget count : ℕ) (said : Decision) (object : String Global) (place : Option Reached) → AreRecorded marks → TellsDecision marks (grants_declared declared) budget count (Ok said)
-    → TellsPlace marks declared (Some said) place → TellsPlace marks declared (Some (decision.OneObject object)) place
-object_place marks declared budget count decision.Decided object (Some reached) recorded tells p = (decided_have_steps marks (grants_declared declared) budget count tells, p.1)
-object_place marks declared budget count decision.Decided object None recorded tells p = absurd (p tt)
-object_place marks declared budget count (decision.Tolerant seconds) object (Some reached) recorded tells p = (tolerant_have_steps marks (grants_declared declared) budget count seconds tells, p.1)
-object_place marks declared budget count (decision.Tolerant seconds) object None recorded tells p = absurd (p tt)
-object_place marks declared budget count (decision.UsedUp steps) object (Some reached) recorded tells p = (spent_have_steps marks (grants_declared declared) budget count steps tells, p.1)
-object_place marks declared budget count (decision.UsedUp steps) object None recorded tells p = absurd (p tt)
-object_place marks declared budget count (decision.NotPlain numbers) object (Some reached) recorded tells p = absurd p.0
-object_place marks declared budget count (decision.NotPlain numbers) object None recorded tells p = λ have.
+abbrev TellsPlainPlace : List MarkOf → DeclarationOf → Option Reached → Type 0
+TellsPlainPlace marks declared (Some reached) = HaveSteps marks × TellsReached marks declared reached
+TellsPlainPlace marks declared None = HaveSteps marks → ⊥
+
+plain_place : (marks : List MarkOf) (declared : DeclarationOf) (budget count : ℕ) (said : Decision) (place : Option Reached) → AreRecorded marks → TellsDecision marks (grants_declared declared) budget count (Ok said)
+    → TellsPlace marks declared (Some said) place → TellsPlainPlace marks declared place
+plain_place marks declared budget count decision.Decided (Some reached) recorded tells p = (decided_have_steps marks (grants_declared declared) budget count tells, p.1)
+plain_place marks declared budget count decision.Decided None recorded tells p = absurd (p tt)
+plain_place marks declared budget count (decision.Tolerant seconds) (Some reached) recorded tells p = (tolerant_have_steps marks (grants_declared declared) budget count seconds tells, p.1)
+plain_place marks declared budget count (decision.Tolerant seconds) None recorded tells p = absurd (p tt)
+plain_place marks declared budget count (decision.UsedUp steps) (Some reached) recorded tells p = (spent_have_steps marks (grants_declared declared) budget count steps tells, p.1)
+plain_place marks declared budget count (decision.UsedUp steps) None recorded tells p = absurd (p tt)
+plain_place marks declared budget count (decision.NotPlain numbers) (Some reached) recorded tells p = absurd p.0
+plain_place marks declared budget count (decision.NotPlain numbers) None recorded tells p = λ have.
     let P : List CallOf → Type 0 = λ cs. ArePlain cs have.2.0 in
     tells.2.1 (no_unplain tells.0 have.2.0 numbers.items (subst P (same_calls marks have.0 tells.0 recorded have.1 tells.1) have.2.1) tells.2.0)
-object_place marks declared budget count (decision.OneObject other) object place recorded tells p = absurd tells.2
+plain_place marks declared budget count (decision.OneObject other) place recorded tells p = absurd tells.2
+plain_place marks declared budget count (decision.OutOfTime seconds) place recorded tells p = absurd tells.2
 
-pub refuted_told : (marks : List MarkOf) (declared : DeclarationOf) (budget : ℕ) (asked : Bool) (searched : Searched) → SearchesRecords marks declared budget asked (Ok searched)
+object_place : (marks : List MarkOf) (declared : DeclarationOf) (object : String Global) (place : Option Reached) → TellsPlainPlace marks declared place
+    → TellsPlace marks declared (Some (decision.OneObject object)) place
+object_place marks declared object (Some reached) p = p
+object_place marks declared object None p = p
+
+time_place : (marks : List MarkOf) (declared : DeclarationOf) (after : ℕ) (place : Option Reached) → TellsPlainPlace marks declared place
+    → TellsPlace marks declared (Some (decision.OutOfTime after)) place
+time_place marks declared after (Some reached) p = p
+time_place marks declared after None p = p
+
+pub refuted_told : (marks : List MarkOf) (declared : DeclarationOf) (seconds budget : ℕ) (asked : Bool) (searched : Searched) → SearchesRecords marks declared seconds budget asked (Ok searched)
     → (count : ℕ) (object named : String Global) (said : Decision) (place : Option Reached) → AreRecorded marks → searched.found ≡ Refuted count object → string_bytes named ≡ string_bytes object
     → TellsDecision marks (grants_declared declared) budget count (Ok said) → TellsPlace marks declared (Some said) place
-    → DecidesRecords marks declared budget asked (Ok (record { searched = searched; decision = Some (decision.OneObject named); reached = place }))
-refuted_told marks declared budget asked searched searches count object named said place recorded is copied tells stuck =
-    let F : Found → Type 0 = λ f. Finds marks declared budget f in
+    → DecidesRecords marks declared seconds budget asked (Ok (record { searched = searched; decision = Some (decision.OneObject named); reached = place }))
+refuted_told marks declared seconds budget asked searched searches count object named said place recorded is copied tells stuck =
+    let F : Found → Type 0 = λ f. FindsIn seconds marks declared budget f in
     let T : Found → Type 0 = λ f. TellsGivingUp marks declared budget f (Some (decision.OneObject named)) in
-    (searches, subst T (sym is) (copied, (subst F is searches.1).2), object_place marks declared budget count said named place recorded tells stuck)
+    (searches, subst T (sym is) (copied, (subst F is searches.1).2), object_place marks declared named place (plain_place marks declared budget count said place recorded tells stuck))
+
+-- ---- the seconds of a search
+
+pub time_told : (marks : List MarkOf) (declared : DeclarationOf) (seconds budget : ℕ) (asked : Bool) (searched : Searched) → SearchesRecords marks declared seconds budget asked (Ok searched)
+    → (count after : ℕ) (said : Decision) (place : Option Reached) → AreRecorded marks → searched.found ≡ OutOfTime count after
+    → TellsDecision marks (grants_declared declared) budget count (Ok said) → TellsPlace marks declared (Some said) place
+    → DecidesRecords marks declared seconds budget asked (Ok (record { searched = searched; decision = Some (decision.OutOfTime after); reached = place }))
+time_told marks declared seconds budget asked searched searches count after said place recorded is tells stuck =
+    let T : Found → Type 0 = λ f. TellsGivingUp marks declared budget f (Some (decision.OutOfTime after)) in
+    (searches, subst T (sym is) refl, time_place marks declared after place (plain_place marks declared budget count said place recorded tells stuck))

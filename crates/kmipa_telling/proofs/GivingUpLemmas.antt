@@ -17,9 +17,9 @@ use Rattle.kmipa_check.specs.declared.auditing.AuditFault.{AuditFault}
 use Rattle.kmipa_check.specs.declared.auditing.AuditFault.TheVariants as audit
 use Rattle.kmipa_check.specs.declared.fault.CheckFault.{CheckFault}
 use Rattle.kmipa_check.specs.declared.fault.CheckFault.TheVariants as check
-use Rattle.kmipa_search.specs.Found.{Finds}
+use Rattle.kmipa_search.specs.Found.{FindsIn}
 use Rattle.kmipa_search.specs.declared.found.Found.{Found}
-use Rattle.kmipa_search.specs.declared.found.Found.TheVariants.{Yes, GaveUp, Refuted}
+use Rattle.kmipa_search.specs.declared.found.Found.TheVariants.{Yes, GaveUp, Refuted, OutOfTime}
 use Rattle.kmipa_runs.specs.Searches.{AreUnsearched, SearchFails, SearchStops, found_status, Makes}
 use Rattle.kmipa_runs.specs.Statuses.{IsSilent}
 use Rattle.kmipa_runs.specs.declared.lines.Lines.{Lines}
@@ -34,12 +34,12 @@ use Rattle.kmipa_telling.specs.declared.judged.Judged.{Judged}
 -- ---- the inputs
 
 -- what was found in the two records that were read
-pub decided_files : {R : Type 0} (ti di : Input R) (t d : List ℕ) (transcript : Transcript) (declaration : Declaration) (judged : Judged) (budget : ℕ) (asked : Bool)
+pub decided_files : {R : Type 0} (ti di : Input R) (t d : List ℕ) (transcript : Transcript) (declaration : Declaration) (judged : Judged) (seconds budget : ℕ) (asked : Bool)
     → IsFileOf t ti → IsFileOf d di → IsTranscript (came_of ti) (transcript_of transcript) × IsTrue (is_ended ti)
     → IsDeclaration (came_of di) (declaration_of declaration) × IsTrue (is_ended di)
-    → (AreRecorded (transcript_of transcript) → DecidesRecords (transcript_of transcript) (declaration_of declaration) budget asked (Ok judged))
-    → AreDecided judged t d budget asked
-decided_files ti di t d transcript declaration judged budget asked tf df p q judges = record {
+    → (AreRecorded (transcript_of transcript) → DecidesRecords (transcript_of transcript) (declaration_of declaration) seconds budget asked (Ok judged))
+    → AreDecided judged t d seconds budget asked
+decided_files ti di t d transcript declaration judged seconds budget asked tf df p q judges = record {
   marks = transcript_of transcript;
   transcript = whole_file t ti (λ bytes. IsTranscript bytes (transcript_of transcript)) p.1 tf p.0;
   declared = declaration_of declaration;
@@ -50,16 +50,17 @@ decided_files ti di t d transcript declaration judged budget asked tf df p q jud
 -- ---- status 0
 
 -- status 0 is reported where a witness was found, and of it alone
-pub done_accepted : (judged : Judged) (t d : List ℕ) (budget : ℕ) (asked : Bool) (said : Status) (made : List ℕ) → AreDecided judged t d budget asked
+pub done_accepted : (judged : Judged) (t d : List ℕ) (seconds budget : ℕ) (asked : Bool) (said : Status) (made : List ℕ) → AreDecided judged t d seconds budget asked
     → said ≡ found_status judged.searched.found → Makes judged.searched.found made → said ≡ status.Done → AreAccepted t d made
-done_accepted judged t d budget asked said made a is makes done = go judged.searched.found refl
+done_accepted judged t d seconds budget asked said made a is makes done = go judged.searched.found refl
   where
     go : (f : Found) → judged.searched.found ≡ f → AreAccepted t d made
     go (GaveUp count) e = let clash : status.GaveUp ≡ status.Done = sym (ap found_status e) ∙ sym is ∙ done in absurd cc
+    go (OutOfTime count after) e = let clash : status.GaveUp ≡ status.Done = sym (ap found_status e) ∙ sym is ∙ done in absurd cc
     go (Refuted count object) e = let clash : status.GaveUp ≡ status.Done = sym (ap found_status e) ∙ sym is ∙ done in absurd cc
     go (Yes witness count) e =
         let M : Found → Type 0 = λ f. Makes f made in
-        let F : Found → Type 0 = λ f. Finds a.marks a.declared budget f in
+        let F : Found → Type 0 = λ f. FindsIn seconds a.marks a.declared budget f in
         record {
           marks = a.marks;
           transcript = a.transcript;
@@ -70,10 +71,10 @@ done_accepted judged t d budget asked said made a is makes done = go judged.sear
           accepted = (subst F e a.judges.0.1).0;
         }
 
-pub done_is_decided : (judged : Judged) (t d : List ℕ) (budget : ℕ) (asked : Bool) (said : Status) (lines made : List ℕ) → AreDecided judged t d budget asked
+pub done_is_decided : (judged : Judged) (t d : List ℕ) (seconds budget : ℕ) (asked : Bool) (said : Status) (lines made : List ℕ) → AreDecided judged t d seconds budget asked
     → PrintsGivingUp (Ok judged) said lines made ⊎ (IsSilent said lines × (made ≡ [])) → said ≡ status.Done → AreAccepted t d made
-done_is_decided judged t d budget asked said lines made a (inr p) done = let clash : status.Failed ≡ status.Done = sym p.0.0 ∙ done in absurd cc
-done_is_decided judged t d budget asked said lines made a (inl p) done = done_accepted judged t d budget asked said made a p.0 p.2 done
+done_is_decided judged t d seconds budget asked said lines made a (inr p) done = let clash : status.Failed ≡ status.Done = sym p.0.0 ∙ done in absurd cc
+done_is_decided judged t d seconds budget asked said lines made a (inl p) done = done_accepted judged t d seconds budget asked said made a p.0 p.2 done
 
 -- ---- faults
 
@@ -84,22 +85,22 @@ stop_of marks (check.Witness w) h = absurd h
 stop_of marks check.Memory h = tt
 
 -- a fault of a file is told alone
-pub bare_transcript : (t d : List ℕ) (ft fd : Bool) (budget : ℕ) (asked : Bool) (fault : RecordFault) → SearchFails t d ft fd (audit.Transcript fault)
-    → DecidesFiles t d ft fd budget asked (Err (bare_fault (audit.Transcript fault)))
-bare_transcript t d ft fd budget asked fault h = (h, tt)
+pub bare_transcript : (t d : List ℕ) (ft fd : Bool) (seconds budget : ℕ) (asked : Bool) (fault : RecordFault) → SearchFails t d ft fd (audit.Transcript fault)
+    → DecidesFiles t d ft fd seconds budget asked (Err (bare_fault (audit.Transcript fault)))
+bare_transcript t d ft fd seconds budget asked fault h = (h, tt)
 
-pub bare_declaration : (t d : List ℕ) (ft fd : Bool) (budget : ℕ) (asked : Bool) (fault : RecordFault) → SearchFails t d ft fd (audit.Declaration fault)
-    → DecidesFiles t d ft fd budget asked (Err (bare_fault (audit.Declaration fault)))
-bare_declaration t d ft fd budget asked fault h = (h, tt)
+pub bare_declaration : (t d : List ℕ) (ft fd : Bool) (seconds budget : ℕ) (asked : Bool) (fault : RecordFault) → SearchFails t d ft fd (audit.Declaration fault)
+    → DecidesFiles t d ft fd seconds budget asked (Err (bare_fault (audit.Declaration fault)))
+bare_declaration t d ft fd seconds budget asked fault h = (h, tt)
 
 -- what a search of records tells of its fault
-pub stop_told : (t d : List ℕ) (ft fd : Bool) (budget : ℕ) (asked : Bool) (marks : List MarkOf) (fault : CheckFault) (told : FaultTold) → AreUnsearched fault t d → IsTranscript t marks
-    → IsFaultToldOf marks fault told → DecidesFiles t d ft fd budget asked (Err told)
-stop_told t d ft fd budget asked marks fault told a is (inl p) =
+pub stop_told : (t d : List ℕ) (ft fd : Bool) (seconds budget : ℕ) (asked : Bool) (marks : List MarkOf) (fault : CheckFault) (told : FaultTold) → AreUnsearched fault t d → IsTranscript t marks
+    → IsFaultToldOf marks fault told → DecidesFiles t d ft fd seconds budget asked (Err told)
+stop_told t d ft fd seconds budget asked marks fault told a is (inl p) =
     let P : AuditFault → Type 0 = λ f. SearchFails t d ft fd f × IsSearchMeaning t f told.meaning in
     subst P (sym p.0) (a, (marks, is, p.1))
-stop_told t d ft fd budget asked marks fault told a is (inr p) =
-    let P : FaultTold → Type 0 = λ x. DecidesFiles t d ft fd budget asked (Err x) in
+stop_told t d ft fd seconds budget asked marks fault told a is (inr p) =
+    let P : FaultTold → Type 0 = λ x. DecidesFiles t d ft fd seconds budget asked (Err x) in
     let memory : AreUnsearched check.Memory t d = record { marks = a.marks; transcript = a.transcript; declared = a.declared; declaration = a.declaration; stops = tt } in
     subst P (sym p) (memory, (marks, is, tt))
 

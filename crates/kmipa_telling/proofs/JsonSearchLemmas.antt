@@ -17,20 +17,20 @@ use Rattle.kmipa_telling.proofs.GivingUpLemmas.{done_accepted}
 use Rattle.kmipa_telling.proofs.JsonLemmas.{fault_not_done, silent_not_done}
 
 -- what is printed and made of what a search answers
-abbrev pub ToldSearch : {R : Type 0} → Option ℕ → Input R → Input R → ℕ → Bool → Status → List ℕ → List ℕ → Type 0
-ToldSearch torn t d budget asked said lines made = (outcome : Result Judged FaultTold) × DecidesInputs t d budget asked outcome × PrintsJsonSearch torn t d outcome said lines made
+abbrev pub ToldSearch : {R : Type 0} → Option ℕ → Input R → Input R → ℕ → ℕ → Bool → Status → List ℕ → List ℕ → Type 0
+ToldSearch torn t d seconds budget asked said lines made = (outcome : Result Judged FaultTold) × DecidesInputs t d seconds budget asked outcome × PrintsJsonSearch torn t d outcome said lines made
 
-found_done : {R : Type 0} (torn : Option ℕ) (t d : Input R) (budget : ℕ) (asked : Bool) (outcome : Result Judged FaultTold) (said : Status) (lines made : List ℕ) → DecidesInputs t d budget asked outcome
+found_done : {R : Type 0} (torn : Option ℕ) (t d : Input R) (seconds budget : ℕ) (asked : Bool) (outcome : Result Judged FaultTold) (said : Status) (lines made : List ℕ) → DecidesInputs t d seconds budget asked outcome
     → PrintsJsonSearch torn t d outcome said lines made → said ≡ status.Done → AreAccepted (came_of t) (came_of d) made × BothEnded t d
-found_done torn t d budget asked (Err told) said lines made decides (none, (known, told_in, knows, (without, tells, more), is)) done = absurd (fault_not_done told.fault (sym tells.0 ∙ done))
-found_done torn t d budget asked (Ok judged) said lines made decides (makes, (known, told_in, knows, tells, is)) done =
+found_done torn t d seconds budget asked (Err told) said lines made decides (none, (known, told_in, knows, (without, tells, more), is)) done = absurd (fault_not_done told.fault (sym tells.0 ∙ done))
+found_done torn t d seconds budget asked (Ok judged) said lines made decides (makes, (known, told_in, knows, tells, is)) done =
     let are = decides.0 (came_of t) (came_of d) (itself t) (itself d) in
-    (done_accepted judged (came_of t) (came_of d) budget asked said made are tells.0 makes done, decides.1)
+    (done_accepted judged (came_of t) (came_of d) seconds budget asked said made are tells.0 makes done, decides.1)
 
-pub done_is_found : {R : Type 0} (torn : Option ℕ) (t d : Input R) (budget : ℕ) (asked : Bool) (said : Status) (lines made : List ℕ)
-    → ToldSearch torn t d budget asked said lines made ⊎ (IsSilent said lines × (made ≡ [])) → said ≡ status.Done → AreAccepted (came_of t) (came_of d) made × BothEnded t d
-done_is_found torn t d budget asked said lines made (inl told) done = found_done torn t d budget asked told.0 said lines made told.1 told.2 done
-done_is_found torn t d budget asked said lines made (inr silent) done = absurd (silent_not_done said lines silent.0 done)
+pub done_is_found : {R : Type 0} (torn : Option ℕ) (t d : Input R) (seconds budget : ℕ) (asked : Bool) (said : Status) (lines made : List ℕ)
+    → ToldSearch torn t d seconds budget asked said lines made ⊎ (IsSilent said lines × (made ≡ [])) → said ≡ status.Done → AreAccepted (came_of t) (came_of d) made × BothEnded t d
+done_is_found torn t d seconds budget asked said lines made (inl told) done = found_done torn t d seconds budget asked told.0 said lines made told.1 told.2 done
+done_is_found torn t d seconds budget asked said lines made (inr silent) done = absurd (silent_not_done said lines silent.0 done)
 
 -- ---- what is appended
 
@@ -46,8 +46,8 @@ search_reported torn (Ok a) t d outcome said lines file told (inl p) =
     let S : List ℕ → Type 0 = λ bytes. PrintsJsonSearch torn t d outcome said lines bytes in
     inl (subst S (sym p.2) (subst Q (sym p.1) (subst P (sym p.0) told)))
 
-pub printed_search : {R : Type 0} (torn : Option ℕ) (t d : Input R) (budget : ℕ) (asked : Bool) (outcome : Result Judged FaultTold) (said : Status) (lines file : List ℕ)
-    → DecidesInputs t d budget asked outcome → PrintsJsonSearch torn t d outcome said lines file ⊎ (IsSilent said lines × (file ≡ []))
-    → ToldSearch torn t d budget asked said lines file ⊎ (IsSilent said lines × (file ≡ []))
-printed_search torn t d budget asked outcome said lines file decides (inl prints) = inl (outcome, decides, prints)
-printed_search torn t d budget asked outcome said lines file decides (inr silent) = inr silent
+pub printed_search : {R : Type 0} (torn : Option ℕ) (t d : Input R) (seconds budget : ℕ) (asked : Bool) (outcome : Result Judged FaultTold) (said : Status) (lines file : List ℕ)
+    → DecidesInputs t d seconds budget asked outcome → PrintsJsonSearch torn t d outcome said lines file ⊎ (IsSilent said lines × (file ≡ []))
+    → ToldSearch torn t d seconds budget asked said lines file ⊎ (IsSilent said lines × (file ≡ []))
+printed_search torn t d seconds budget asked outcome said lines file decides (inl prints) = inl (outcome, decides, prints)
+printed_search torn t d seconds budget asked outcome said lines file decides (inr silent) = inr silent

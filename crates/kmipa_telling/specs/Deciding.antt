@@ -17,7 +17,7 @@ use Rattle.kmipa_search.specs.Found.{HasDecided}
 use Rattle.kmipa_search.specs.Plain.{ArePlain, IsForced}
 use Rattle.kmipa_search.specs.Reached.{HaveSteps, TellsReached}
 use Rattle.kmipa_search.specs.declared.found.Found.{Found}
-use Rattle.kmipa_search.specs.declared.found.Found.TheVariants.{Yes, GaveUp, Refuted}
+use Rattle.kmipa_search.specs.declared.found.Found.TheVariants.{Yes, GaveUp, Refuted, OutOfTime}
 use Rattle.kmipa_search.specs.declared.stuck.Reached.{Reached}
 use Rattle.kmipa_runs.specs.Searches.{SearchFails, SearchStops, SearchesRecords}
 use Rattle.kmipa_telling.specs.FaultsTold.{IsSearchMeaning}
@@ -47,10 +47,11 @@ IsDecidedUnder g (decision.Tolerant seconds) = (seconds ≡ g.tolerance) × ¬ (
 IsDecidedUnder g (decision.UsedUp steps) = ⊥
 IsDecidedUnder g (decision.NotPlain numbers) = ⊥
 IsDecidedUnder g (decision.OneObject object) = ⊥
+IsDecidedUnder g (decision.OutOfTime seconds) = ⊥
 
 -- What is said of calls that were given up after so many steps of a budget: that the search has decided; or that it hasn't, since the calls are
 -- plain and no steps were left, too few even where the calls are forced, or since these aren't plain; or that it had, were moments stamps. Of one
--- object nothing is said.
+-- object nothing is said, and nothing of seconds that are over.
 abbrev pub IsSaid : GrantsOf → List CallOf → ℕ → ℕ → Decision → Type 0
 IsSaid g calls budget count decision.Decided = HasDecided calls budget count × IsDecidedUnder g decision.Decided
 IsSaid g calls budget count (decision.Tolerant seconds) = HasDecided calls budget count × IsDecidedUnder g (decision.Tolerant seconds)
@@ -58,6 +59,7 @@ IsSaid g calls budget count (decision.UsedUp steps) = ((plain : List StepOf) × 
     × (IsForced calls → budget < length calls) × (steps ≡ budget)
 IsSaid g calls budget count (decision.NotPlain numbers) = AreUnplain calls numbers.items × (numbers.items ≢ [])
 IsSaid g calls budget count (decision.OneObject object) = ⊥
+IsSaid g calls budget count (decision.OutOfTime seconds) = ⊥
 
 -- what giving up says of a transcript with these marks, under a declaration that grants this
 abbrev pub TellsDecision : List MarkOf → GrantsOf → ℕ → ℕ → Result Decision CheckFault → Type 0
@@ -73,16 +75,18 @@ TellsObject object (Some decision.Decided) = ⊥
 TellsObject object (Some (decision.UsedUp steps)) = ⊥
 TellsObject object (Some (decision.NotPlain numbers)) = ⊥
 TellsObject object (Some (decision.Tolerant seconds)) = ⊥
+TellsObject object (Some (decision.OutOfTime seconds)) = ⊥
 TellsObject object (Some (decision.OneObject named)) = string_bytes named ≡ string_bytes object
 
 -- Of a yes nothing is said. Of a giving up something is; and where it is said to be decided, no order explains the transcript. Where one object
--- refutes the transcript, that is said, and no order explains it.
+-- refutes the transcript, that is said, and no order explains it. Where the seconds of the search are over, that is said, and how many they are.
 abbrev pub TellsGivingUp : List MarkOf → DeclarationOf → ℕ → Found → Option Decision → Type 0
 TellsGivingUp marks declared budget (Yes witness count) said = said ≡ None
 TellsGivingUp marks declared budget (GaveUp count) None = ⊥
 TellsGivingUp marks declared budget (GaveUp count) (Some said) = TellsDecision marks (grants_declared declared) budget count (Ok said)
     × (said ≡ decision.Decided → IsExplained marks declared → ⊥)
 TellsGivingUp marks declared budget (Refuted count object) said = TellsObject object said × (IsExplained marks declared → ⊥)
+TellsGivingUp marks declared budget (OutOfTime count after) said = said ≡ Some (decision.OutOfTime after)
 
 -- it is said of calls that are plain
 abbrev pub IsOfPlain : List MarkOf → Option Decision → Type 0
@@ -91,6 +95,7 @@ IsOfPlain marks (Some (decision.UsedUp steps)) = Unit {0}
 IsOfPlain marks (Some (decision.NotPlain numbers)) = ⊥
 IsOfPlain marks (Some (decision.Tolerant seconds)) = Unit {0}
 IsOfPlain marks (Some (decision.OneObject object)) = HaveSteps marks
+IsOfPlain marks (Some (decision.OutOfTime seconds)) = HaveSteps marks
 IsOfPlain marks None = ⊥
 
 -- where it is, a place is told, and of others none
@@ -103,21 +108,21 @@ TellsPlaceOf marks declared said (Ok place) = TellsPlace marks declared said pla
 TellsPlaceOf marks declared said (Err fault) = fault ≡ Memory
 
 -- what a search of records answers, what its giving up says, and where it got stuck
-abbrev pub DecidesRecords : List MarkOf → DeclarationOf → ℕ → Bool → Result Judged CheckFault → Type 0
-DecidesRecords marks declared budget asked (Ok judged) = SearchesRecords marks declared budget asked (Ok judged.searched)
+abbrev pub DecidesRecords : List MarkOf → DeclarationOf → ℕ → ℕ → Bool → Result Judged CheckFault → Type 0
+DecidesRecords marks declared seconds budget asked (Ok judged) = SearchesRecords marks declared seconds budget asked (Ok judged.searched)
     × TellsGivingUp marks declared budget judged.searched.found judged.decision
     × TellsPlace marks declared judged.decision judged.reached
-DecidesRecords marks declared budget asked (Err fault) = SearchStops marks fault
+DecidesRecords marks declared seconds budget asked (Err fault) = SearchStops marks fault
 
 -- a search of these files found this, and its giving up says this
-pub record AreDecided (judged : Judged) (t d : List ℕ) (budget : ℕ) (asked : Bool) : Type 0 where
+pub record AreDecided (judged : Judged) (t d : List ℕ) (seconds budget : ℕ) (asked : Bool) : Type 0 where
   pub marks : List MarkOf
   pub transcript : IsTranscript t marks
   pub declared : DeclarationOf
   pub declaration : IsDeclaration d declared
-  pub judges : DecidesRecords marks declared budget asked (Ok judged)
+  pub judges : DecidesRecords marks declared seconds budget asked (Ok judged)
 
 -- what a search of two files answers; its faults are those of a search that says nothing of giving up, with what they mean
-abbrev pub DecidesFiles : List ℕ → List ℕ → Bool → Bool → ℕ → Bool → Result Judged FaultTold → Type 0
-DecidesFiles t d failed_t failed_d budget asked (Ok judged) = AreDecided judged t d budget asked
-DecidesFiles t d failed_t failed_d budget asked (Err told) = SearchFails t d failed_t failed_d told.fault × IsSearchMeaning t told.fault told.meaning
+abbrev pub DecidesFiles : List ℕ → List ℕ → Bool → Bool → ℕ → ℕ → Bool → Result Judged FaultTold → Type 0
+DecidesFiles t d failed_t failed_d seconds budget asked (Ok judged) = AreDecided judged t d seconds budget asked
+DecidesFiles t d failed_t failed_d seconds budget asked (Err told) = SearchFails t d failed_t failed_d told.fault × IsSearchMeaning t told.fault told.meaning

@@ -20,6 +20,7 @@ decision_line decision.Decided = line (codes "decided: no order explains every a
 decision_line (decision.UsedUp steps) = line (codes "not decided: the budget of " ∷ decimal steps ∷ codes " steps is used up" ∷ [])
 decision_line (decision.OneObject object) = line (codes "decided: no order explains the answers about object " ∷ quoted (string_bytes object) ∷ [])
 decision_line (decision.NotPlain numbers) = line (codes "not decided: these are not plain: " ∷ calls_text numbers.items ∷ [])
+decision_line (decision.OutOfTime seconds) = line (codes "not decided: " ∷ decimal seconds ∷ codes " seconds are over" ∷ [])
 decision_line (decision.Tolerant seconds) = line (codes "not decided: moments within " ∷ signed_decimal seconds ∷ codes " seconds of their stamps were not all tried" ∷ [])
 
 -- of a yes nothing more is printed

@@ -7,7 +7,7 @@ use Rattle.kmipa_ttlv.specs.Input.{came_of, is_ended, is_failed, IsFileOf}
 use Rattle.kmipa_ttlv.specs.declared.input.Input.{Input}
 use Rattle.kmipa_record.specs.declared.head.Head.{Head}
 use Rattle.kmipa_search.specs.declared.found.Found.{Found}
-use Rattle.kmipa_search.specs.declared.found.Found.TheVariants.{Yes, GaveUp, Refuted}
+use Rattle.kmipa_search.specs.declared.found.Found.TheVariants.{Yes, GaveUp, Refuted, OutOfTime}
 use Rattle.kmipa_runs.specs.Searches.{found_status, Makes}
 use Rattle.kmipa_runs.specs.declared.status.Status.{Status}
 use Rattle.kmipa_search.specs.declared.stuck.Reached.{Reached}
@@ -30,18 +30,19 @@ abbrev pub BothEnded : {R : Type 0} → Input R → Input R → Type 0
 BothEnded t d = IsTrue (is_ended t) × IsTrue (is_ended d)
 
 -- what a search of two inputs answers, whatever follows what came
-abbrev pub DecidesInputs : {R : Type 0} → Input R → Input R → ℕ → Bool → Result Judged FaultTold → Type 0
-DecidesInputs t d budget asked outcome = ((a b : List ℕ) → IsFileOf a t → IsFileOf b d → DecidesFiles a b (is_failed t) (is_failed d) budget asked outcome)
+abbrev pub DecidesInputs : {R : Type 0} → Input R → Input R → ℕ → ℕ → Bool → Result Judged FaultTold → Type 0
+DecidesInputs t d seconds budget asked outcome = ((a b : List ℕ) → IsFileOf a t → IsFileOf b d → DecidesFiles a b (is_failed t) (is_failed d) seconds budget asked outcome)
     × WhereRead (by_fault outcome) (BothEnded t d)
 
 -- ---- what is told
 
--- whether giving up has decided, and by which object; if not, the budget that was used up, the calls that aren't plain, or the tolerance
+-- whether giving up has decided, and by which object; if not, the budget that was used up, the calls that aren't plain, the tolerance, or the seconds that are over
 abbrev pub decision_members : Decision → Members → Members
 decision_members decision.Decided told = put (codes "decided") (boolean true) told
 decision_members (decision.UsedUp steps) told = put (codes "budget") (count steps) (put (codes "decided") (boolean false) told)
 decision_members (decision.OneObject named) told = put (codes "object") (string (string_bytes named)) (put (codes "decided") (boolean true) told)
 decision_members (decision.NotPlain numbers) told = put (codes "not_plain") (array (call_items numbers.items)) (put (codes "decided") (boolean false) told)
+decision_members (decision.OutOfTime seconds) told = put (codes "seconds") (count seconds) (put (codes "decided") (boolean false) told)
 decision_members (decision.Tolerant seconds) told = put (codes "tolerance") (integer seconds) (put (codes "decided") (boolean false) told)
 
 abbrev pub told_decision : Option Decision → Members → Members
@@ -61,6 +62,7 @@ abbrev pub told_found : Found → Option Decision → Option Reached → Members
 told_found (Yes witness steps) said reached told = steps_members (codes "yes") steps told
 told_found (GaveUp steps) said reached told = told_reached reached (told_decision said (steps_members (codes "gave up") steps told))
 told_found (Refuted steps named) said reached told = told_reached reached (told_decision said (steps_members (codes "gave up") steps told))
+told_found (OutOfTime steps after) said reached told = told_reached reached (told_decision said (steps_members (codes "gave up") steps told))
 
 -- what is told of what was found
 abbrev pub found_members : Judged → Members → Members
@@ -73,6 +75,7 @@ abbrev pub found_items : Found → List ℕ → Items → Items
 found_items (Yes witness steps) made told = with_item (object (file_members (codes "witness") made)) told
 found_items (GaveUp steps) made told = told
 found_items (Refuted steps named) made told = told
+found_items (OutOfTime steps after) made told = told
 
 abbrev pub judged_items : Result Judged FaultTold → List ℕ → Items → Items
 judged_items (Ok judged) made told = found_items judged.searched.found made told

@@ -43,7 +43,8 @@ pub fn explain_search_run<R: Read, W: Watch>(
     // giving up or its fault means, or memory ran out.
     ensures prints { (outcome : Result Judged FaultTold)
         × ((t d : List ℕ) → IsFileOf t transcript.new → IsFileOf d declaration.new
-        → DecidesFiles t d (is_failed transcript.new) (is_failed declaration.new) budget forced outcome)
+        → DecidesFiles t d (is_failed transcript.new) (is_failed declaration.new)
+        (W.seconds watch.old) budget forced outcome)
         × (PrintsGivingUp outcome result.status (appended_bytes out.old.items out.new.items)
         (appended_bytes made.old.items made.new.items)
         ⊎ (IsSilent result.status (appended_bytes out.old.items out.new.items)
@@ -90,7 +91,8 @@ fn judge_inputs<R: Read, W: Watch>(
     requires transcript { came_of transcript.old ≡ [] }
     requires declaration { came_of declaration.old ≡ [] }
     ensures decides { (t d : List ℕ) → IsFileOf t transcript.new → IsFileOf d declaration.new
-        → DecidesFiles t d (is_failed transcript.new) (is_failed declaration.new) asked.budget asked.forced result }
+        → DecidesFiles t d (is_failed transcript.new) (is_failed declaration.new)
+        (W.seconds watch.old) asked.budget asked.forced result }
     ensures known { IfOk result (λ judged. Known (came_of transcript.new) head.new) }
     ensures ended { OnOk result (IsTrue (is_ended transcript.new) × IsTrue (is_ended declaration.new)) }
 {
@@ -129,6 +131,7 @@ fn tell_judged(alloc: Global, judged: &Judged, out: &mut Vec<u8>, made: &mut Vec
         Found::Yes(witness, _) => tell_witness(alloc, witness, &lines, out, made),
         Found::GaveUp(_) => append(Ok(lines), out),
         Found::Refuted(_, _) => append(Ok(lines), out),
+        Found::OutOfTime(_, _) => append(Ok(lines), out),
     }
 }
 
@@ -174,6 +177,9 @@ fn decision_line(alloc: Global, decision: &Decision) -> Result<String, AllocErro
         Decision::NotPlain(numbers) => {
             let calls = calls_text(alloc, numbers)?;
             format!(in alloc; "not decided: these are not plain: {calls}\n")
+        }
+        Decision::OutOfTime(seconds) => {
+            format!(in alloc; "not decided: {seconds} seconds are over\n")
         }
         Decision::Tolerant(seconds) => {
             format!(in alloc;

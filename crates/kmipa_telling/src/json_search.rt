@@ -60,7 +60,7 @@ pub fn search_json<R: Read, W: Watch>(
     requires declaration { came_of declaration.old ≡ [] }
     // What is made and printed tells what a search answers of whatever the inputs may be, or memory ran out.
     ensures prints { ((outcome : Result Judged FaultTold)
-        × DecidesInputs transcript.new declaration.new budget forced outcome
+        × DecidesInputs transcript.new declaration.new (W.seconds watch.old) budget forced outcome
         × PrintsJsonSearch torn transcript.new declaration.new outcome result.status
         (appended_bytes out.old.items out.new.items) (appended_bytes made.old.items made.new.items))
         ⊎ (IsSilent result.status (appended_bytes out.old.items out.new.items)
@@ -212,7 +212,8 @@ fn search_held<R: Read, W: Watch>(
     requires first { held.old.transcript.items ≡ [] }
     requires second { held.old.declaration.items ≡ [] }
     requires none { held.old.head ≡ None }
-    ensures decides { IfOk result (DecidesInputs transcript.new declaration.new asked.budget asked.forced) }
+    ensures decides { IfOk result (DecidesInputs transcript.new declaration.new
+        (W.seconds watch.old) asked.budget asked.forced) }
     ensures transcript { OnOk result (held.new.transcript.items ≡ came_of transcript.new) }
     ensures declaration { OnOk result (held.new.declaration.items ≡ came_of declaration.new) }
     ensures known { IfOk result (λ outcome. KnowsJudged outcome (came_of transcript.new) held.new.head) }

@@ -26,6 +26,8 @@ pub enum Decision {
     NotPlain(Vec<i32>),
     /// Nothing: the declaration lets moments be so many seconds from their stamps, and not all of them were tried.
     Tolerant(i32),
+    /// Nothing: so many seconds, all that the search had, are over.
+    OutOfTime(u64),
 }
 
 /// What a search found, and, where it gave up, what that says.
@@ -59,7 +61,8 @@ pub fn judge_records<W: Watch>(
 ) -> Result<Judged, CheckFault>
     requires { AreDeclared (declaration_of declaration.now) }
     ensures { AreRecorded (transcript_of transcript.now)
-        → DecidesRecords (transcript_of transcript.now) (declaration_of declaration.now) asked.budget asked.forced result }
+        → DecidesRecords (transcript_of transcript.now) (declaration_of declaration.now)
+        (W.seconds watch.old) asked.budget asked.forced result }
 {
     let grants = Grants::of(declaration);
     let mut deepest = Deepest::new(alloc, watch);
@@ -96,6 +99,17 @@ pub fn judge_records<W: Watch>(
             Ok(Judged {
                 searched,
                 decision: Some(Decision::OneObject(named)),
+                reached,
+            })
+        }
+        Found::OutOfTime(count, after) => {
+            let seconds = *after;
+            let said = decide(alloc, transcript, grants, asked.budget, *count)?;
+            let order = deepest.into_calls()?;
+            let reached = deepest_place(alloc, transcript, declaration, &said, &order)?;
+            Ok(Judged {
+                searched,
+                decision: Some(Decision::OutOfTime(seconds)),
                 reached,
             })
         }

@@ -33,6 +33,7 @@ pub fn tell_judged(
         }
         Found::GaveUp(count) => tell_given_up(alloc, told, judged, *count),
         Found::Refuted(count, _) => tell_given_up(alloc, told, judged, *count),
+        Found::OutOfTime(count, _) => tell_given_up(alloc, told, judged, *count),
     }
 }
 
@@ -83,6 +84,10 @@ fn tell_decision(
         Decision::NotPlain(numbers) => {
             told.put_truth("decided", false)?;
             told.put_list("not_plain", calls_list(alloc, numbers)?)
+        }
+        Decision::OutOfTime(seconds) => {
+            told.put_truth("decided", false)?;
+            told.put_count("seconds", *seconds)
         }
         Decision::Tolerant(seconds) => {
             told.put_truth("decided", false)?;

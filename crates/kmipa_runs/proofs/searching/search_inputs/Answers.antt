@@ -9,7 +9,7 @@ use Rattle.kmipa_runs.proofs.searching.search_inputs.Goals as goal
 
 pub returns-in-Ok-search_at_last-clause-searches : goal.returns-in-Ok-search_at_last-clause-searches
 returns-in-Ok-search_at_last-clause-searches g c = λ t d tf df.
-    searched_files c.read_transcript.new.input c.read_declaration.new.input t d c.in-Ok.transcript c.in-Ok-read_declaration.declaration c.in-Ok-search_at_last.searched c.args.budget c.args.forced
+    searched_files c.read_transcript.new.input c.read_declaration.new.input t d c.in-Ok.transcript c.in-Ok-read_declaration.declaration c.in-Ok-search_at_last.searched (g.W.Watch.seconds c.args.watch.now) c.args.budget c.args.forced
     tf df c.in-Ok.ensures.found c.in-Ok-read_declaration.ensures.found c.in-Ok-search_at_last.ensures
 
 pub returns-in-Err-read_declaration-clause-searches : goal.returns-in-Err-read_declaration-clause-searches
@@ -18,7 +18,7 @@ returns-in-Err-read_declaration-clause-searches g c = λ t d tf df.
 
 pub returns-in-Err-search_at_last-clause-searches : goal.returns-in-Err-search_at_last-clause-searches
 returns-in-Err-search_at_last-clause-searches g c = λ t d tf df.
-    unsearched_files c.read_transcript.new.input c.read_declaration.new.input t d c.in-Ok.transcript c.in-Ok-read_declaration.declaration c.in-Err-search_at_last.fault c.args.budget c.args.forced
+    unsearched_files c.read_transcript.new.input c.read_declaration.new.input t d c.in-Ok.transcript c.in-Ok-read_declaration.declaration c.in-Err-search_at_last.fault (g.W.Watch.seconds c.args.watch.now) c.args.budget c.args.forced
     tf df c.in-Ok.ensures.found c.in-Ok-read_declaration.ensures.found c.in-Err-search_at_last.ensures
 
 pub returns-in-Ok-search_at_last-clause-known : goal.returns-in-Ok-search_at_last-clause-known

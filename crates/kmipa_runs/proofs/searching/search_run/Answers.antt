@@ -29,7 +29,7 @@ returns-in-Ok-clause-accepts g c = λ done.
     let lines = appended_bytes c.args.out.now.items c.tell_searched.new.out.items in
     let made = appended_bytes c.args.made.now.items c.tell_searched.new.made.items in
     let found = c.in-Ok.ensures.searches (came_of t) (came_of d) (itself t) (itself d) in
-    let accepted = done_is_accepted c.in-Ok.looked.searched (came_of t) (came_of d) c.args.budget c.args.forced c.tell_searched.result lines made found c.tell_searched.ensures.tells done in
+    let accepted = done_is_accepted c.in-Ok.looked.searched (came_of t) (came_of d) (g.W.Watch.seconds c.args.watch.now) c.args.budget c.args.forced c.tell_searched.result lines made found c.tell_searched.ensures.tells done in
     (accepted, c.in-Ok.ensures.ended.0, c.in-Ok.ensures.ended.1)
 
 pub returns-in-Ok-clause-known : goal.returns-in-Ok-clause-known

@@ -27,7 +27,7 @@ returns-in-Ok-clause-accepts g c = λ done.
     let lines = appended_bytes c.args.out.now.items c.tell_judged.new.out.items in
     let made = appended_bytes c.args.made.now.items c.tell_judged.new.made.items in
     let found = c.in-Ok.ensures.decides (came_of t) (came_of d) (itself t) (itself d) in
-    let accepted = done_is_decided c.in-Ok.judged (came_of t) (came_of d) c.args.budget c.args.forced c.tell_judged.result lines made found c.tell_judged.ensures.tells done in
+    let accepted = done_is_decided c.in-Ok.judged (came_of t) (came_of d) (g.W.Watch.seconds c.args.watch.now) c.args.budget c.args.forced c.tell_judged.result lines made found c.tell_judged.ensures.tells done in
     (accepted, c.in-Ok.ensures.ended.0, c.in-Ok.ensures.ended.1)
 
 pub returns-in-Ok-clause-known : goal.returns-in-Ok-clause-known

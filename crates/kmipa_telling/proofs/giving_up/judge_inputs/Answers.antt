@@ -15,29 +15,29 @@ fault_told-requires-clause-told g c =
 
 pub returns-in-Ok-judge_records-clause-decides : goal.returns-in-Ok-judge_records-clause-decides
 returns-in-Ok-judge_records-clause-decides g c = λ t d tf df.
-    decided_files c.read_transcript.new.input c.read_declaration.new.input t d c.in-Ok.transcript c.in-Ok-read_declaration.declaration c.in-Ok-judge_records.judged c.args.asked.budget c.args.asked.forced
+    decided_files c.read_transcript.new.input c.read_declaration.new.input t d c.in-Ok.transcript c.in-Ok-read_declaration.declaration c.in-Ok-judge_records.judged (g.W.Watch.seconds c.args.watch.now) c.args.asked.budget c.args.asked.forced
     tf df c.in-Ok.ensures.found c.in-Ok-read_declaration.ensures.found c.in-Ok-judge_records.ensures
 
 pub returns-in-Err-clause-decides : goal.returns-in-Err-clause-decides
 returns-in-Err-clause-decides g c = λ t d tf df.
     let ft = is_failed c.read_transcript.new.input in
     let fd = is_failed c.args.declaration.now in
-    let P : FaultTold → Type 0 = λ told. DecidesFiles t d ft fd c.args.asked.budget c.args.asked.forced (Err told) in
-    subst P (sym c.bare.ensures) (bare_transcript t d ft fd c.args.asked.budget c.args.asked.forced c.in-Err.fault (c.in-Err.ensures.fault t tf))
+    let P : FaultTold → Type 0 = λ told. DecidesFiles t d ft fd (g.W.Watch.seconds c.args.watch.now) c.args.asked.budget c.args.asked.forced (Err told) in
+    subst P (sym c.bare.ensures) (bare_transcript t d ft fd (g.W.Watch.seconds c.args.watch.now) c.args.asked.budget c.args.asked.forced c.in-Err.fault (c.in-Err.ensures.fault t tf))
 
 pub returns-in-Err-read_declaration-clause-decides : goal.returns-in-Err-read_declaration-clause-decides
 returns-in-Err-read_declaration-clause-decides g c = λ t d tf df.
     let ft = is_failed c.read_transcript.new.input in
     let fd = is_failed c.read_declaration.new.input in
-    let P : FaultTold → Type 0 = λ told. DecidesFiles t d ft fd c.args.asked.budget c.args.asked.forced (Err told) in
-    subst P (sym c.bare-in-Err-read_declaration.ensures) (bare_declaration t d ft fd c.args.asked.budget c.args.asked.forced c.in-Err-read_declaration.fault
+    let P : FaultTold → Type 0 = λ told. DecidesFiles t d ft fd (g.W.Watch.seconds c.args.watch.now) c.args.asked.budget c.args.asked.forced (Err told) in
+    subst P (sym c.bare-in-Err-read_declaration.ensures) (bare_declaration t d ft fd (g.W.Watch.seconds c.args.watch.now) c.args.asked.budget c.args.asked.forced c.in-Err-read_declaration.fault
     (a_transcript c.read_transcript.new.input t c.in-Ok.transcript tf c.in-Ok.ensures.found, c.in-Err-read_declaration.ensures.fault d df))
 
 pub returns-in-Err-judge_records-clause-decides : goal.returns-in-Err-judge_records-clause-decides
 returns-in-Err-judge_records-clause-decides g c = λ t d tf df.
     let marks = transcript_of c.in-Ok.transcript in
-    stop_told t d (is_failed c.read_transcript.new.input) (is_failed c.read_declaration.new.input) c.args.asked.budget c.args.asked.forced marks c.in-Err-judge_records.fault c.fault_told.result
-    (unsearched_files c.read_transcript.new.input c.read_declaration.new.input t d c.in-Ok.transcript c.in-Ok-read_declaration.declaration c.in-Err-judge_records.fault c.args.asked.budget c.args.asked.forced
+    stop_told t d (is_failed c.read_transcript.new.input) (is_failed c.read_declaration.new.input) (g.W.Watch.seconds c.args.watch.now) c.args.asked.budget c.args.asked.forced marks c.in-Err-judge_records.fault c.fault_told.result
+    (unsearched_files c.read_transcript.new.input c.read_declaration.new.input t d c.in-Ok.transcript c.in-Ok-read_declaration.declaration c.in-Err-judge_records.fault (g.W.Watch.seconds c.args.watch.now) c.args.asked.budget c.args.asked.forced
     tf df c.in-Ok.ensures.found c.in-Ok-read_declaration.ensures.found c.in-Err-judge_records.ensures)
     (whole_file t c.read_transcript.new.input (λ bytes. IsTranscript bytes marks) c.in-Ok.ensures.found.1 tf c.in-Ok.ensures.found.0)
     c.fault_told.ensures

@@ -30,10 +30,10 @@ pub returns-in-Err-clause-decides : goal.returns-in-Err-clause-decides
 returns-in-Err-clause-decides g c =
     let t = c.read_held.new.input in
     let d = c.args.declaration.now in
-    let P : FaultTold → Type 0 = λ told. DecidesInputs t d c.args.asked.budget c.args.asked.forced (Err told) in
+    let P : FaultTold → Type 0 = λ told. DecidesInputs t d (g.W.Watch.seconds c.args.watch.now) c.args.asked.budget c.args.asked.forced (Err told) in
     subst P (sym c.bare.ensures) (
       λ a b af bf.
-          bare_transcript a b (is_failed t) (is_failed d) c.args.asked.budget c.args.asked.forced c.in-Err.fault
+          bare_transcript a b (is_failed t) (is_failed d) (g.W.Watch.seconds c.args.watch.now) c.args.asked.budget c.args.asked.forced c.in-Err.fault
           (err_told c.in_ok-read.read c.in-Err.fault (Tells TranscriptFault IsTranscriptUpTo a (is_failed t)) c.in-Err.is (c.in_ok-read.ensures.fault a af)),
       tt,
     )
@@ -43,9 +43,9 @@ returns-in-Err-read-clause-decides g c =
     let first = ok_told c.in_ok-read.read c.in-Ok.marks _ c.in-Ok.is c.in_ok-read.ensures.found in
     let t = c.read_held.new.input in
     let d = c.read_held-2.new.input in
-    let P : FaultTold → Type 0 = λ told. DecidesInputs t d c.args.asked.budget c.args.asked.forced (Err told) in
+    let P : FaultTold → Type 0 = λ told. DecidesInputs t d (g.W.Watch.seconds c.args.watch.now) c.args.asked.budget c.args.asked.forced (Err told) in
     subst P (sym c.bare-in-Err-read.ensures) (
-      λ a b af bf. bare_declaration a b (is_failed t) (is_failed d) c.args.asked.budget c.args.asked.forced c.in-Err-read.fault (
+      λ a b af bf. bare_declaration a b (is_failed t) (is_failed d) (g.W.Watch.seconds c.args.watch.now) c.args.asked.budget c.args.asked.forced c.in-Err-read.fault (
         a_transcript t a c.in-Ok.marks af (first.0.0, first.1),
         err_told c.in_ok-read-2.read c.in-Err-read.fault (Tells DeclarationFault IsDeclarationUpTo b (is_failed d)) c.in-Err-read.is (c.in_ok-read-2.ensures.fault b bf),
       ),
@@ -57,7 +57,7 @@ returns-in-Ok-judge_records-clause-decides g c =
     let first = ok_told c.in_ok-read.read c.in-Ok.marks _ c.in-Ok.is c.in_ok-read.ensures.found in
     let second = ok_told c.in_ok-read-2.read c.in-Ok-read.declared _ c.in-Ok-read.is c.in_ok-read-2.ensures.found in (
       λ a b af bf.
-          decided_files c.read_held.new.input c.read_held-2.new.input a b c.in-Ok.marks c.in-Ok-read.declared c.in-Ok-judge_records.judged c.args.asked.budget c.args.asked.forced af bf (first.0.0, first.1)
+          decided_files c.read_held.new.input c.read_held-2.new.input a b c.in-Ok.marks c.in-Ok-read.declared c.in-Ok-judge_records.judged (g.W.Watch.seconds c.args.watch.now) c.args.asked.budget c.args.asked.forced af bf (first.0.0, first.1)
           (second.0.0, second.1) c.in-Ok-judge_records.ensures,
       (first.1, second.1),
     )
@@ -70,8 +70,8 @@ returns-in-Err-judge_records-clause-decides g c =
     let first = ok_told c.in_ok-read.read c.in-Ok.marks _ c.in-Ok.is c.in_ok-read.ensures.found in
     let second = ok_told c.in_ok-read-2.read c.in-Ok-read.declared _ c.in-Ok-read.is c.in_ok-read-2.ensures.found in (
       λ a b af bf.
-          stop_told a b (is_failed t) (is_failed d) c.args.asked.budget c.args.asked.forced marks c.in-Err-judge_records.fault c.fault_told.result
-          (unsearched_files t d a b c.in-Ok.marks c.in-Ok-read.declared c.in-Err-judge_records.fault c.args.asked.budget c.args.asked.forced af bf (first.0.0, first.1) (second.0.0, second.1) c.in-Err-judge_records.ensures)
+          stop_told a b (is_failed t) (is_failed d) (g.W.Watch.seconds c.args.watch.now) c.args.asked.budget c.args.asked.forced marks c.in-Err-judge_records.fault c.fault_told.result
+          (unsearched_files t d a b c.in-Ok.marks c.in-Ok-read.declared c.in-Err-judge_records.fault (g.W.Watch.seconds c.args.watch.now) c.args.asked.budget c.args.asked.forced af bf (first.0.0, first.1) (second.0.0, second.1) c.in-Err-judge_records.ensures)
           (whole_file a t (λ bytes. IsTranscript bytes marks) first.1 af first.0.0)
           c.fault_told.ensures,
       where_ended {T = Judged} (by_fault (Err c.fault_told.result)) (BothEnded t d) (first.1, second.1),

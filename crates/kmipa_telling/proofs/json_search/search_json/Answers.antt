@@ -12,14 +12,14 @@ returns-in-Ok-clause-prints g c =
     let d = c.search_held.new.declaration in
     let lines = appended_bytes c.args.out.now.items c.append_both.new.out.items in
     let made = appended_bytes c.args.made.now.items c.append_both.new.made.items in
-    printed_search c.args.torn t d c.args.budget c.args.forced c.in-Ok.outcome c.append_both.result lines made c.in-Ok.ensures.decides
+    printed_search c.args.torn t d (g.W.Watch.seconds c.args.watch.now) c.args.budget c.args.forced c.in-Ok.outcome c.append_both.result lines made c.in-Ok.ensures.decides
     (search_reported c.args.torn c.told_of-answer.result t d c.in-Ok.outcome c.append_both.result lines made c.told_of-answer.ensures c.append_both.ensures.appended)
 
 pub returns-in-Ok-clause-accepts : goal.returns-in-Ok-clause-accepts
 returns-in-Ok-clause-accepts g c = λ done.
     let lines = appended_bytes c.args.out.now.items c.append_both.new.out.items in
     let made = appended_bytes c.args.made.now.items c.append_both.new.made.items in
-    done_is_found c.args.torn c.search_held.new.transcript c.search_held.new.declaration c.args.budget c.args.forced c.append_both.result lines made (returns-in-Ok-clause-prints g c) done
+    done_is_found c.args.torn c.search_held.new.transcript c.search_held.new.declaration (g.W.Watch.seconds c.args.watch.now) c.args.budget c.args.forced c.append_both.result lines made (returns-in-Ok-clause-prints g c) done
 
 pub returns-in-Ok-clause-known : goal.returns-in-Ok-clause-known
 returns-in-Ok-clause-known g c =
