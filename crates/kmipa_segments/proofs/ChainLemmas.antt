@@ -27,7 +27,7 @@ use Rattle.kmipa_check.specs.declared.verdict.Verdict.TheVariants as verdict
 use Rattle.kmipa_check.proofs.JoinLemmas.{joined_begun_lem, recorded_begun_lem}
 use Rattle.kmipa_check.proofs.SegmentLemmas.{accepted_behind_lem, segments_join_lem}
 use Rattle.kmipa_search.specs.declared.found.Found.{Found}
-use Rattle.kmipa_search.specs.declared.found.Found.TheVariants.{Yes, GaveUp, Refuted}
+use Rattle.kmipa_search.specs.declared.found.Found.TheVariants.{Yes, GaveUp, Refuted, OutOfTime}
 use Rattle.kmipa_runs.specs.Lines.{PrintsVerdict}
 use Rattle.kmipa_runs.specs.Searches.{found_status, SearchStops}
 use Rattle.kmipa_runs.specs.Statuses.{IsSilent}
@@ -35,7 +35,7 @@ use Rattle.kmipa_runs.specs.declared.status.Status.{Status}
 use Rattle.kmipa_runs.specs.declared.status.Status.TheVariants as status
 use Rattle.kmipa_runs.proofs.LineLemmas.{done_is_yes}
 use Rattle.kmipa_links.specs.declared.links.Links.{Links}
-use Rattle.kmipa_segments.specs.Chains.{AreChained, AreCheckedNext, AreReadNext, AreSearchedNext, AreUncheckedNext, AreUnsearchedNext, GoesOn, GoesOnBy, GoesOnSomehow, IsJoined, IsSomeDeclared, IsUnreadNext, LeavesWhereFound, NextFails, SearchesNext}
+use Rattle.kmipa_segments.specs.Chains.{AreChained, AreCheckedNext, AreReadNext, AreSearchedNext, AreUncheckedNext, AreUnsearchedNext, found_witness, GoesOn, GoesOnBy, GoesOnSomehow, IsJoined, IsSomeDeclared, IsUnreadNext, LeavesWhereFound, NextFails, SearchesNext}
 use Rattle.kmipa_segments.specs.SegmentSearches.{FindsSince, SearchesSegment}
 use Rattle.kmipa_check.specs.declared.auditing.AuditFault.TheVariants as audit
 use Rattle.kmipa_segments.specs.declared.chain.Chain.{Chain}
@@ -121,13 +121,13 @@ unread_check chain name t w failed_t failed_w (Fault (audit.Witness f)) h = absu
 unread_check chain name t w failed_t failed_w (Fault (audit.Check f)) h = absurd h
 unread_check chain name t w failed_t failed_w (Gap gap) h = h
 
-pub unread_search : (chain : Chain) (next : Links) (name t : List ℕ) (failed_t : Bool) (budget : ℕ) (u : Unjudged) → IsUnreadNext chain.links name t failed_t u
-    → SearchesNext chain next name t failed_t budget (Err u)
-unread_search chain next name t failed_t budget (Fault (audit.Transcript f)) h = h
-unread_search chain next name t failed_t budget (Fault (audit.Declaration f)) h = absurd h
-unread_search chain next name t failed_t budget (Fault (audit.Witness f)) h = absurd h
-unread_search chain next name t failed_t budget (Fault (audit.Check f)) h = absurd h
-unread_search chain next name t failed_t budget (Gap gap) h = h
+pub unread_search : (chain : Chain) (next : Links) (name t : List ℕ) (failed_t : Bool) (seconds budget : ℕ) (u : Unjudged) → IsUnreadNext chain.links name t failed_t u
+    → SearchesNext chain next name t failed_t seconds budget (Err u)
+unread_search chain next name t failed_t seconds budget (Fault (audit.Transcript f)) h = h
+unread_search chain next name t failed_t seconds budget (Fault (audit.Declaration f)) h = absurd h
+unread_search chain next name t failed_t seconds budget (Fault (audit.Witness f)) h = absurd h
+unread_search chain next name t failed_t seconds budget (Fault (audit.Check f)) h = absurd h
+unread_search chain next name t failed_t seconds budget (Gap gap) h = h
 
 -- ---- what is checked
 
@@ -135,8 +135,8 @@ module _ (chain : Chain) (links : Links) (name : List ℕ) (segment : NextSegmen
   abbrev LeadsTo : Left → Type 0
   LeadsTo left = Leads (declaration_of chain.held.declaration) chain.held.until (transcript_of segment.transcript) (witness_of segment.witness) (declaration_of left.declaration) left.until
 
-  pub goes_on_by : (next : Chain) → segment.checked.left ≡ Some next.held → next.links ≡ links → GoesOnBy chain next name t w
-  goes_on_by next is same =
+  pub goes_on_by : (next : Chain) → segment.checked.left ≡ Some next.held → next.witness ≡ Some segment.witness → next.links ≡ links → GoesOnBy chain next name t w
+  goes_on_by next is holds same =
       let H : Left → Type 0 = λ left. LeadsTo left in
       let P : Verdict → Type 0 = λ v. ChecksSince (transcript_of segment.transcript) (declaration_of chain.held.declaration) chain.held.until (witness_of segment.witness) (Ok v) in
       let L : Links → Type 0 = λ l. AreReadNext chain.links l name t (transcript_of segment.transcript) in
@@ -148,6 +148,7 @@ module _ (chain : Chain) (links : Links) (name : List ℕ) (segment : NextSegmen
         goes_on = goes_on chain.held next.held (transcript_of segment.transcript) (witness_of segment.witness) c.read.transcript.recorded
             (subst P (handed_at_yes segment.checked.verdict segment.checked.left next.held H is c.leads) c.verdict)
             (handed_out segment.checked.verdict segment.checked.left next.held H is c.leads);
+        keeps = record { witness = segment.witness; held = holds; is = refl };
       }
 
   -- what is left may be declared
@@ -162,25 +163,28 @@ module _ (chain : Chain) (links : Links) (name : List ℕ) (segment : NextSegmen
 
 -- ---- what is searched
 
-module _ (marks : List MarkOf) (declared : DeclarationOf) (since : Option ℤ) (budget : ℕ) where
+module _ (marks : List MarkOf) (declared : DeclarationOf) (since : Option ℤ) (seconds budget : ℕ) where
   -- what leads to what is left, where a witness was found
-  record IsFoundTo (left : Left) : Type 0 where
-    turns : List TurnOf
-    accepted : IsAcceptedSince marks declared since turns
-    leads : Leads declared since marks turns (declaration_of left.declaration) left.until
+  record IsFoundTo (found : Found) (left : Left) : Type 0 where
+    witness : Witness
+    is : found_witness found ≡ Some witness
+    accepted : IsAcceptedSince marks declared since (witness_of witness)
+    leads : Leads declared since marks (witness_of witness) (declaration_of left.declaration) left.until
 
-  found_to : (found : Found) (handed : Option Left) (left : Left) → handed ≡ Some left → FindsSince marks declared since budget found handed → IsFoundTo left
+  found_to : (found : Found) (handed : Option Left) (left : Left) → handed ≡ Some left → FindsSince marks declared since seconds budget found handed → IsFoundTo found left
   found_to (Yes witness count) (Some other) left is finds =
       let same : other ≡ left = cc in
       let P : Left → Type 0 = λ x. Leads declared since marks (witness_of witness) (declaration_of x.declaration) x.until in
-      record { turns = witness_of witness; accepted = finds.1; leads = subst P same finds.2 }
+      record { witness = witness; is = refl; accepted = finds.1; leads = subst P same finds.2 }
   found_to (Yes witness count) None left is finds = absurd finds
   found_to (GaveUp count) (Some other) left is finds = absurd finds
   found_to (GaveUp count) None left is finds = absurd cc
   found_to (Refuted count object) (Some other) left is finds = absurd finds
   found_to (Refuted count object) None left is finds = absurd cc
+  found_to (OutOfTime count after) (Some other) left is finds = absurd finds
+  found_to (OutOfTime count after) None left is finds = absurd cc
 
-  declared_where : (found : Found) (handed : Option Left) → FindsSince marks declared since budget found handed
+  declared_where : (found : Found) (handed : Option Left) → FindsSince marks declared since seconds budget found handed
       → LeavesWhereFound found handed (λ (left : Left). AreDeclared (declaration_of left.declaration))
   declared_where (Yes witness count) (Some left) finds = finds.2.run.leaves.objects
   declared_where (Yes witness count) None finds = finds
@@ -188,18 +192,21 @@ module _ (marks : List MarkOf) (declared : DeclarationOf) (since : Option ℤ) (
   declared_where (GaveUp count) None finds = tt
   declared_where (Refuted count object) (Some left) finds = finds
   declared_where (Refuted count object) None finds = tt
+  declared_where (OutOfTime count after) (Some left) finds = finds
+  declared_where (OutOfTime count after) None finds = tt
 
-module _ (chain : Chain) (links : Links) (name : List ℕ) (segment : FoundSegment) (t : List ℕ) (budget : ℕ) (s : AreSearchedNext chain links name segment t budget) where
-  pub goes_on_somehow : (next : Chain) → segment.left ≡ Some next.held → next.links ≡ links → GoesOnSomehow chain next name t
-  goes_on_somehow next is same =
-      let f = found_to s.marks (declaration_of chain.held.declaration) chain.held.until budget segment.searched.found segment.left next.held is s.found.1 in
+module _ (chain : Chain) (links : Links) (name : List ℕ) (segment : FoundSegment) (t : List ℕ) (seconds budget : ℕ) (s : AreSearchedNext chain links name segment t seconds budget) where
+  pub goes_on_somehow : (next : Chain) → segment.left ≡ Some next.held → next.witness ≡ found_witness segment.searched.found → next.links ≡ links → GoesOnSomehow chain next name t
+  goes_on_somehow next is holds same =
+      let f = found_to s.marks (declaration_of chain.held.declaration) chain.held.until seconds budget segment.searched.found segment.left next.held is s.found.1 in
       let L : Links → Type 0 = λ l. AreReadNext chain.links l name t s.marks in
       record {
         marks = s.marks;
         read = subst L (sym same) s.read;
-        turns = f.turns;
-        goes_on = goes_on chain.held next.held s.marks f.turns s.read.transcript.recorded f.accepted f.leads;
+        turns = witness_of f.witness;
+        goes_on = goes_on chain.held next.held s.marks (witness_of f.witness) s.read.transcript.recorded f.accepted f.leads;
+        keeps = record { witness = f.witness; held = holds ∙ f.is; is = refl };
       }
 
   pub leaves_where_found : LeavesWhereFound segment.searched.found segment.left (λ (left : Left). AreDeclared (declaration_of left.declaration))
-  leaves_where_found = declared_where s.marks (declaration_of chain.held.declaration) chain.held.until budget segment.searched.found segment.left s.found.1
+  leaves_where_found = declared_where s.marks (declaration_of chain.held.declaration) chain.held.until seconds budget segment.searched.found segment.left s.found.1

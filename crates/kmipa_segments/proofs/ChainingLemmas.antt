@@ -7,7 +7,7 @@ use Rattle.std.proofs.lemmas.Option.{slice_get_within}
 use Rattle.std.specs.Io.{appended_bytes}
 use Rattle.kmipa_record.specs.Marks.{MarkOf, begun}
 use Rattle.kmipa_record.specs.Declarations.{DeclarationOf}
-use Rattle.kmipa_record.specs.Witnesses.{TurnOf, IsWitness}
+use Rattle.kmipa_record.specs.Witnesses.{TurnOf, IsWitness, witness_of}
 use Rattle.kmipa_record.proofs.MarkLemmas.{begun-append}
 use Rattle.kmipa_check.specs.Segments.{AreApart}
 use Rattle.kmipa_check.specs.Since.{IsAcceptedSince}
@@ -18,8 +18,8 @@ use Rattle.kmipa_links.specs.Linking.{HaveLinked, LinksOn}
 use Rattle.kmipa_runs.specs.Statuses.{IsSilent}
 use Rattle.kmipa_runs.specs.declared.status.Status.{Status}
 use Rattle.kmipa_runs.specs.declared.status.Status.TheVariants as status
-use Rattle.kmipa_segments.specs.Chains.{AreChained, GoesOn, GoesOnBy, GoesOnSomehow, IsNamed, PrintsJudged, PrintsUnjudged, TellsJudged}
-use Rattle.kmipa_segments.specs.Chaining.{AreParts, AreNextOf, EndsChain, IsChain, IsNextOf, IsPart, PartOf, SegmentFiles, marks_of, segments_of, turns_of}
+use Rattle.kmipa_segments.specs.Chains.{AreChained, AreReadNext, GoesOn, GoesOnBy, GoesOnSomehow, IsNamed, Keeps, PrintsJudged, PrintsUnjudged, TellsJudged}
+use Rattle.kmipa_segments.specs.Chaining.{AreParts, AreNextOf, EndsChain, IsChain, IsKept, IsKeptNext, IsNextOf, IsPart, PartOf, SegmentFiles, marks_of, segments_of, turns_of}
 use Rattle.kmipa_segments.specs.Leaving.{TellsLeft}
 use Rattle.kmipa_segments.specs.declared.chain.Chain.{Chain}
 use Rattle.kmipa_segments.specs.declared.next.Unjudged.{Unjudged}
@@ -128,6 +128,30 @@ next_by chain next name t w g = next_linked chain next name t (Some w) g.marks g
 pub next_somehow : (chain next : Chain) (name t : List ℕ) → GoesOnSomehow chain next name t → IsNextOf chain next (record { name = name; transcript = t; witness = None })
 next_somehow chain next name t g = next_linked chain next name t None g.marks g.turns g.read.links_on tt g.goes_on
 
+-- And by the witness that is held next, whatever bytes it is written as.
+kept_by : (chain next : Chain) (name t w : List ℕ) (marks : List MarkOf) (turns : List TurnOf) → AreReadNext chain.links next.links name t marks → GoesOn chain.held next.held marks turns
+    → Keeps next turns → IsKept next w → GoesOnBy chain next name t w
+kept_by chain next name t w marks turns read on keeps kept =
+    let both : Some kept.witness ≡ Some keeps.witness = sym kept.held ∙ keeps.held in
+    let same : kept.witness ≡ keeps.witness = cc in
+    let P : List TurnOf → Type 0 = λ l. IsWitness w l in
+    let are : witness_of kept.witness ≡ turns = ap witness_of same ∙ keeps.is in
+    record { marks = marks; read = read; turns = turns; witness = subst P are kept.is; goes_on = on; keeps = keeps }
+
+pub kept_next_by : (chain next : Chain) (name t own : List ℕ) → GoesOnBy chain next name t own → IsKeptNext chain next name t
+kept_next_by chain next name t own g = record {
+  witness = g.keeps.witness;
+  held = g.keeps.held;
+  goes_on = λ w kept. let by = kept_by chain next name t w g.marks g.turns g.read g.goes_on g.keeps kept in (by, next_by chain next name t w by);
+}
+
+pub kept_next_somehow : (chain next : Chain) (name t : List ℕ) → GoesOnSomehow chain next name t → IsKeptNext chain next name t
+kept_next_somehow chain next name t g = record {
+  witness = g.keeps.witness;
+  held = g.keeps.held;
+  goes_on = λ w kept. let by = kept_by chain next name t w g.marks g.turns g.read g.goes_on g.keeps kept in (by, next_by chain next name t w by);
+}
+
 -- where there are none yet
 pub none_yet : (first : DeclarationOf) (chain : Chain) → AreChained first None [] [] chain.held → HaveLinked [] chain.links → IsChain first [] chain
 none_yet first chain c l = record { parts = []; are = tt; linked = l.ends.linked; accepted = λ some. absurd (omega (arith, some)); leads = c; kept = l }
@@ -161,6 +185,15 @@ Named name told judged said lines = ((said ≡ judged) × (told ≡ [] → ⊥) 
 pub was_done : (name told : List ℕ) (judged said : Status) (lines : List ℕ) → Named name told judged said lines → said ≡ status.Done → judged ≡ status.Done
 was_done name told judged said lines (inl n) done = sym n.0 ∙ done
 was_done name told judged said lines (inr silent) done = let clash : status.Failed ≡ status.Done = sym silent.0 ∙ done in absurd cc
+
+-- one text that stands behind a name
+pub told_named : (name told text : List ℕ) (judged wanted said : Status) (lines : List ℕ) → judged ≡ wanted → told ≡ text → Named name told judged said lines
+    → ((said ≡ wanted) × IsNamed name (λ (t : List ℕ). t ≡ text) lines) ⊎ IsSilent said lines
+told_named name told text judged wanted said lines is same (inl n) = inl (n.0 ∙ is, (told, same, n.2))
+told_named name told text judged wanted said lines is same (inr silent) = inr silent
+
+pub never_done : (name told : List ℕ) (judged said : Status) (lines : List ℕ) → judged ≡ status.GaveUp → Named name told judged said lines → said ≡ status.Done → ⊥
+never_done name told judged said lines is named done = let clash : status.GaveUp ≡ status.Done = sym is ∙ was_done name told judged said lines named done in absurd cc
 
 pub prints_named : (P : Status → List ℕ → Type 0) (name told : List ℕ) (judged said : Status) (lines : List ℕ) → P judged told ⊎ IsSilent judged told
     → Named name told judged said lines → IsNamed name (P said) lines ⊎ IsSilent said lines

@@ -37,10 +37,10 @@ use Rattle.kmipa_check.proofs.PlainLemmas.{its_moment, plain_call_has_one_step_l
 use Rattle.kmipa_check.proofs.RecordedLemmas.{same_calls}
 use Rattle.kmipa_check.proofs.SegmentLemmas.{accepted_since_lem}
 use Rattle.kmipa_check.proofs.WholeOrderLemmas.{number_of, same_call}
-use Rattle.kmipa_search.specs.Found.{Finds, HasDecided, stopped, enough, one_by_one}
+use Rattle.kmipa_search.specs.Found.{Finds, FindsIn, HasDecided, stopped, enough, one_by_one}
 use Rattle.kmipa_search.specs.Plain.{ArePlain, IsPlainStep}
 use Rattle.kmipa_search.specs.declared.found.Found.{Found}
-use Rattle.kmipa_search.specs.declared.found.Found.TheVariants.{Yes, GaveUp, Refuted}
+use Rattle.kmipa_search.specs.declared.found.Found.TheVariants.{Yes, GaveUp, Refuted, OutOfTime}
 use Rattle.kmipa_search.proofs.PlainLemmas.{one_plain_step, plain_from}
 use Rattle.kmipa_runs.specs.Searches.{found_status, found_text, forced_text, AreUnsearched, Makes, PrintsSearch, SearchStops}
 use Rattle.kmipa_runs.specs.Statuses.{IsSilent}
@@ -163,13 +163,13 @@ module _ (marks : List MarkOf) (declared : DeclarationOf) (since : Option ℤ) (
 
 -- ---- what is found
 
-module _ (marks : List MarkOf) (declared : DeclarationOf) (since : Option ℤ) (witness : Witness) (count budget : ℕ) (v : Verdict) (handed : Option Left) where
+module _ (marks : List MarkOf) (declared : DeclarationOf) (since : Option ℤ) (witness : Witness) (count seconds budget : ℕ) (v : Verdict) (handed : Option Left) where
   abbrev pub LeadsFrom : Left → Type 0
   LeadsFrom left = Leads declared since marks (witness_of witness) (declaration_of left.declaration) left.until
 
   -- a witness that is accepted from the moment on
   pub goes_on : (left : Left) → Finds marks declared budget (Yes witness count) → ChecksSince marks declared since (witness_of witness) (Ok v)
-      → LeavesAtYes v handed (λ (l : Left). LeadsFrom l) → handed ≡ Some left → FindsSince marks declared since budget (Yes witness count) (Some left)
+      → LeavesAtYes v handed (λ (l : Left). LeadsFrom l) → handed ≡ Some left → FindsSince marks declared since seconds budget (Yes witness count) (Some left)
   goes_on left found checks leads is =
       let H : Left → Type 0 = λ l. LeadsFrom l in
       let P : Verdict → Type 0 = λ x. ChecksSince marks declared since (witness_of witness) (Ok x) in
@@ -177,31 +177,32 @@ module _ (marks : List MarkOf) (declared : DeclarationOf) (since : Option ℤ) (
 
   -- and one that isn't
   pub goes_no_further : AreRecorded marks → Finds marks declared budget (Yes witness count) → ChecksSince marks declared since (witness_of witness) (Ok v)
-      → LeavesAtYes v handed (λ (l : Left). LeadsFrom l) → handed ≡ None → FindsSince marks declared since budget (GaveUp count) None
+      → LeavesAtYes v handed (λ (l : Left). LeadsFrom l) → handed ≡ None → FindsSince marks declared since seconds budget (GaveUp count) None
   goes_no_further r found checks leads none = by v refl
     where
-      by : (x : Verdict) → v ≡ x → FindsSince marks declared since budget (GaveUp count) None
+      by : (x : Verdict) → v ≡ x → FindsSince marks declared since seconds budget (GaveUp count) None
       by verdict.Yes is = absurd (yes_hands_out v handed (λ l. LeadsFrom l) is none leads)
       by (verdict.No refused) is =
           (found.2, (found.0.calls, found.0.are, λ nothing decided e. none_since marks declared since (witness_of witness) r found.0 v refused is checks nothing budget count decided e))
 
 -- the same of what was found
-pub found_so : (marks : List MarkOf) (declared : DeclarationOf) (budget : ℕ) (found so : Found) → found ≡ so → Finds marks declared budget found → Finds marks declared budget so
-found_so marks declared budget found so is finds = let P : Found → Type 0 = λ f. Finds marks declared budget f in subst P is finds
+pub found_so : (marks : List MarkOf) (declared : DeclarationOf) (seconds budget : ℕ) (found so : Found) → found ≡ so → FindsIn seconds marks declared budget found
+    → FindsIn seconds marks declared budget so
+found_so marks declared seconds budget found so is finds = let P : Found → Type 0 = λ f. FindsIn seconds marks declared budget f in subst P is finds
 
 -- a search that gives up says so of every moment
-pub gives_up : (marks : List MarkOf) (declared : DeclarationOf) (since : Option ℤ) (count budget : ℕ) → AreRecorded marks → Finds marks declared budget (GaveUp count)
-    → FindsSince marks declared since budget (GaveUp count) None
-gives_up marks declared since count budget r found = (found.0, (found.1.0, found.1.1, λ nothing decided e. by nothing decided e))
+pub gives_up : (marks : List MarkOf) (declared : DeclarationOf) (since : Option ℤ) (count seconds budget : ℕ) → AreRecorded marks → Finds marks declared budget (GaveUp count)
+    → FindsSince marks declared since seconds budget (GaveUp count) None
+gives_up marks declared since count seconds budget r found = (found.0, (found.1.0, found.1.1, λ nothing decided e. by nothing decided e))
   where
     by : GrantsNothing (grants_declared declared) → HasDecidedSince found.1.0 since budget count → IsExplainedSince marks declared since → ⊥
     by nothing (by_search decided) e = found.1.2 nothing decided e.explained
     by nothing (ended_below below) e = never_below marks declared nothing since found.1.0 r found.1.1 below e
 
 -- and so does one that finds an object which refutes them
-pub refutes : (marks : List MarkOf) (declared : DeclarationOf) (since : Option ℤ) (count budget : ℕ) (object : String Global) → Finds marks declared budget (Refuted count object)
-    → FindsSince marks declared since budget (Refuted count object) None
-refutes marks declared since count budget object found = (found.0, λ e. found.2 e.explained)
+pub refutes : (marks : List MarkOf) (declared : DeclarationOf) (since : Option ℤ) (count seconds budget : ℕ) (object : String Global) → Finds marks declared budget (Refuted count object)
+    → FindsSince marks declared since seconds budget (Refuted count object) None
+refutes marks declared since count seconds budget object found = (found.0, λ e. found.2 e.explained)
 
 -- ---- what is made
 
@@ -266,14 +267,14 @@ unasked_found false segment said lines made left_made is (inr silent) nothing = 
 
 -- ---- status 0
 
-module _ (segment : FoundSegment) (t d : List ℕ) (since : Option ℤ) (budget : ℕ) (asked : Bool) (said : Status) (lines made left_made : List ℕ)
-    (a : AreSearchedSince segment t d since budget asked) (done : said ≡ status.Done) where
+module _ (segment : FoundSegment) (t d : List ℕ) (since : Option ℤ) (seconds budget : ℕ) (asked : Bool) (said : Status) (lines made left_made : List ℕ)
+    (a : AreSearchedSince segment t d since seconds budget asked) (done : said ≡ status.Done) where
   -- the witness and what is left, where both were found
   leads_to : (witness : Witness) (count : ℕ) (left : Left) → segment.searched.found ≡ Yes witness count → segment.left ≡ Some left → IsWitness made (witness_of witness)
       → Lead t d made since (declaration_of left.declaration)
   leads_to witness count left found is written =
-      let P : Found → Type 0 = λ f. FindsSince a.marks a.declared since budget f segment.left in
-      let Q : Option Left → Type 0 = λ o. FindsSince a.marks a.declared since budget (Yes witness count) o in
+      let P : Found → Type 0 = λ f. FindsSince a.marks a.declared since seconds budget f segment.left in
+      let Q : Option Left → Type 0 = λ o. FindsSince a.marks a.declared since seconds budget (Yes witness count) o in
       let finds = subst Q is (subst P found a.found.1) in
       record {
         marks = a.marks;
@@ -287,10 +288,10 @@ module _ (segment : FoundSegment) (t d : List ℕ) (since : Option ℤ) (budget 
         leads = finds.2;
       }
 
-  never : (f : Found) (o : Option Left) → segment.searched.found ≡ f → segment.left ≡ o → (FindsSince a.marks a.declared since budget f o → ⊥) → ⊥
+  never : (f : Found) (o : Option Left) → segment.searched.found ≡ f → segment.left ≡ o → (FindsSince a.marks a.declared since seconds budget f o → ⊥) → ⊥
   never f o found is none =
-      let P : Found → Type 0 = λ x. FindsSince a.marks a.declared since budget x segment.left in
-      let Q : Option Left → Type 0 = λ x. FindsSince a.marks a.declared since budget f x in
+      let P : Found → Type 0 = λ x. FindsSince a.marks a.declared since seconds budget x segment.left in
+      let Q : Option Left → Type 0 = λ x. FindsSince a.marks a.declared since seconds budget f x in
       none (subst Q is (subst P found a.found.1))
 
   made_at : (witness : Witness) (count : ℕ) → segment.searched.found ≡ Yes witness count → Makes segment.searched.found made → IsWitness made (witness_of witness)
@@ -306,6 +307,9 @@ module _ (segment : FoundSegment) (t d : List ℕ) (since : Option ℤ) (budget 
   leads_at leaves (GaveUp count) (Some left) found is tells = absurd (never (GaveUp count) (Some left) found is (λ h. h))
   leads_at true (GaveUp count) None found is tells = let clash : status.GaveUp ≡ status.Done = sym (ap found_status found) ∙ sym tells.0.0 ∙ done in absurd cc
   leads_at false (GaveUp count) None found is tells = let clash : status.GaveUp ≡ status.Done = sym (ap found_status found) ∙ sym tells.0.0 ∙ done in absurd cc
+  leads_at leaves (OutOfTime count after) (Some left) found is tells = absurd (never (OutOfTime count after) (Some left) found is (λ h. h))
+  leads_at true (OutOfTime count after) None found is tells = let clash : status.GaveUp ≡ status.Done = sym (ap found_status found) ∙ sym tells.0.0 ∙ done in absurd cc
+  leads_at false (OutOfTime count after) None found is tells = let clash : status.GaveUp ≡ status.Done = sym (ap found_status found) ∙ sym tells.0.0 ∙ done in absurd cc
   leads_at leaves (Refuted count object) (Some left) found is tells = absurd (never (Refuted count object) (Some left) found is (λ h. h))
   leads_at true (Refuted count object) None found is tells = let clash : status.GaveUp ≡ status.Done = sym (ap found_status found) ∙ sym tells.0.0 ∙ done in absurd cc
   leads_at false (Refuted count object) None found is tells = let clash : status.GaveUp ≡ status.Done = sym (ap found_status found) ∙ sym tells.0.0 ∙ done in absurd cc
@@ -318,12 +322,12 @@ module _ (segment : FoundSegment) (t d : List ℕ) (since : Option ℤ) (budget 
 
 -- ---- the inputs
 
-pub segment_files : {R : Type 0} (ti di : Input R) (t d : List ℕ) (transcript : Transcript) (declaration : Declaration) (segment : FoundSegment) (since : Option ℤ) (budget : ℕ) (asked : Bool)
+pub segment_files : {R : Type 0} (ti di : Input R) (t d : List ℕ) (transcript : Transcript) (declaration : Declaration) (segment : FoundSegment) (since : Option ℤ) (seconds budget : ℕ) (asked : Bool)
     → IsFileOf t ti → IsFileOf d di → IsTranscript (came_of ti) (transcript_of transcript) × IsTrue (is_ended ti)
     → IsDeclaration (came_of di) (declaration_of declaration) × IsTrue (is_ended di)
-    → (AreRecorded (transcript_of transcript) → SearchesSegment (transcript_of transcript) (declaration_of declaration) since budget asked (Ok segment))
-    → AreSearchedSince segment t d since budget asked
-segment_files ti di t d transcript declaration segment since budget asked tf df p q searches = record {
+    → (AreRecorded (transcript_of transcript) → SearchesSegment (transcript_of transcript) (declaration_of declaration) since seconds budget asked (Ok segment))
+    → AreSearchedSince segment t d since seconds budget asked
+segment_files ti di t d transcript declaration segment since seconds budget asked tf df p q searches = record {
   marks = transcript_of transcript;
   transcript = whole_file t ti (λ bytes. IsTranscript bytes (transcript_of transcript)) p.1 tf p.0;
   declared = declaration_of declaration;
@@ -331,12 +335,12 @@ segment_files ti di t d transcript declaration segment since budget asked tf df 
   found = searches p.0.recorded;
 }
 
-pub unsearched_segment : {R : Type 0} (ti di : Input R) (t d : List ℕ) (transcript : Transcript) (declaration : Declaration) (fault : CheckFault) (since : Option ℤ) (budget : ℕ) (asked : Bool)
+pub unsearched_segment : {R : Type 0} (ti di : Input R) (t d : List ℕ) (transcript : Transcript) (declaration : Declaration) (fault : CheckFault) (since : Option ℤ) (seconds budget : ℕ) (asked : Bool)
     → IsFileOf t ti → IsFileOf d di → IsTranscript (came_of ti) (transcript_of transcript) × IsTrue (is_ended ti)
     → IsDeclaration (came_of di) (declaration_of declaration) × IsTrue (is_ended di)
-    → (AreRecorded (transcript_of transcript) → SearchesSegment (transcript_of transcript) (declaration_of declaration) since budget asked (Err fault))
+    → (AreRecorded (transcript_of transcript) → SearchesSegment (transcript_of transcript) (declaration_of declaration) since seconds budget asked (Err fault))
     → AreUnsearched fault t d
-unsearched_segment ti di t d transcript declaration fault since budget asked tf df p q searches = record {
+unsearched_segment ti di t d transcript declaration fault since seconds budget asked tf df p q searches = record {
   marks = transcript_of transcript;
   transcript = whole_file t ti (λ bytes. IsTranscript bytes (transcript_of transcript)) p.1 tf p.0;
   declared = declaration_of declaration;

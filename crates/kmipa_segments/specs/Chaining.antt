@@ -1,16 +1,17 @@
 -- What a run over a chain of segments promises: that they are linked, and that the marks of all, one after the other, are accepted.
-use Rattle.std.specs.Prelude.{◌≡◌, ◌<◌, ℕ, List, [], ◌∷◌, ◌++◌, map, Bool, true, false, Option, None, IfSome, codes, length}
+use Rattle.std.specs.Prelude.{◌≡◌, ◌<◌, ℕ, List, [], ◌∷◌, ◌++◌, map, Bool, true, false, Option, Some, None, IfSome, codes, length}
 use Rattle.std.specs.Fmt.{decimal}
 use Rattle.kmipa_record.specs.Marks.{MarkOf}
 use Rattle.kmipa_record.specs.Declarations.{DeclarationOf}
-use Rattle.kmipa_record.specs.Witnesses.{TurnOf, IsWitness}
+use Rattle.kmipa_record.specs.Witnesses.{TurnOf, witness_of, IsWitness}
+use Rattle.kmipa_record.specs.declared.witness.Witness.{Witness}
 use Rattle.kmipa_check.specs.Since.{IsAcceptedSince}
 use Rattle.kmipa_check.specs.declared.segment.Left.{Left}
 use Rattle.kmipa_links.specs.Links.{Linked, SegmentOf}
 use Rattle.kmipa_links.specs.Linking.{HaveLinked, IsOf}
 use Rattle.kmipa_runs.specs.declared.status.Status.{Status}
 use Rattle.kmipa_runs.specs.declared.status.Status.TheVariants as status
-use Rattle.kmipa_segments.specs.Chains.{AreChained}
+use Rattle.kmipa_segments.specs.Chains.{AreChained, GoesOnBy}
 use Rattle.kmipa_segments.specs.Leaving.{PrintsLeft, TellsLeft}
 use Rattle.kmipa_segments.specs.declared.chain.Chain.{Chain}
 
@@ -71,6 +72,20 @@ IsNextOf chain next more = (first : DeclarationOf) (files : List SegmentFiles) �
 abbrev pub AreNextOf : Chain → Chain → ℕ → Type 0
 AreNextOf chain next count = (first : DeclarationOf) (files : List SegmentFiles) → IsChain first files chain
     → (more : List SegmentFiles) × (length more ≡ count) × IsChain first (files ++ more) next
+
+-- ---- what is kept of a segment
+
+-- the bytes are the witness that the chain holds
+pub record IsKept (chain : Chain) (w : List ℕ) : Type 0 where
+  pub witness : Witness
+  pub held : chain.witness ≡ Some witness
+  pub is : IsWitness w (witness_of witness)
+
+-- A witness is held next, and by it the segment goes on: whatever bytes it is written as, it is accepted from what was held, and so is the chain with it.
+pub record IsKeptNext (chain next : Chain) (name t : List ℕ) : Type 0 where
+  pub witness : Witness
+  pub held : next.witness ≡ Some witness
+  pub goes_on : (w : List ℕ) → IsKept next w → GoesOnBy chain next name t w × IsNextOf chain next (record { name = name; transcript = t; witness = Some w })
 
 -- ---- what is printed
 

@@ -5,6 +5,7 @@ use Rattle.kmipa_record.specs.Files.{Tells}
 use Rattle.kmipa_record.specs.Transcripts.{transcript_of, IsTranscript, TranscriptFault, IsTranscriptUpTo}
 use Rattle.kmipa_record.specs.Declarations.{AreDeclared, DeclarationOf, declaration_of}
 use Rattle.kmipa_record.specs.Witnesses.{TurnOf, witness_of, IsWitness, WitnessFault, IsWitnessUpTo}
+use Rattle.kmipa_record.specs.declared.witness.Witness.{Witness}
 use Rattle.kmipa_check.specs.Audits.{AreATranscript}
 use Rattle.kmipa_check.specs.Left.{LeavesAtYes}
 use Rattle.kmipa_check.specs.Segments.{AreApart, HaveBegun, Leads}
@@ -17,7 +18,7 @@ use Rattle.kmipa_check.specs.declared.segment.Left.{Left}
 use Rattle.kmipa_links.specs.Linking.{HasGap, LinksOn}
 use Rattle.kmipa_links.specs.declared.links.Links.{Links}
 use Rattle.kmipa_search.specs.declared.found.Found.{Found}
-use Rattle.kmipa_search.specs.declared.found.Found.TheVariants.{Yes, GaveUp, Refuted}
+use Rattle.kmipa_search.specs.declared.found.Found.TheVariants.{Yes, GaveUp, Refuted, OutOfTime}
 use Rattle.kmipa_runs.specs.Lines.{PrintsFault, PrintsVerdict}
 use Rattle.kmipa_runs.specs.Searches.{found_status, found_text, forced_text, SearchStops}
 use Rattle.kmipa_runs.specs.Statuses.{IsSilent}
@@ -56,20 +57,28 @@ pub record AreReadNext (links next : Links) (name t : List ℕ) (marks : List Ma
   pub transcript : IsTranscript t marks
   pub links_on : LinksOn links next name t marks
 
--- they are such a segment that goes on from what is held, and the others its witness
+-- the chain holds a witness of these turns
+pub record Keeps (chain : Chain) (turns : List TurnOf) : Type 0 where
+  pub witness : Witness
+  pub held : chain.witness ≡ Some witness
+  pub is : witness_of witness ≡ turns
+
+-- they are such a segment that goes on from what is held, and the others its witness, which is held next
 pub record GoesOnBy (chain next : Chain) (name t w : List ℕ) : Type 0 where
   pub marks : List MarkOf
   pub read : AreReadNext chain.links next.links name t marks
   pub turns : List TurnOf
   pub witness : IsWitness w turns
   pub goes_on : GoesOn chain.held next.held marks turns
+  pub keeps : Keeps next turns
 
--- they are one, by some witness
+-- they are one, by some witness, which is held next
 pub record GoesOnSomehow (chain next : Chain) (name t : List ℕ) : Type 0 where
   pub marks : List MarkOf
   pub read : AreReadNext chain.links next.links name t marks
   pub turns : List TurnOf
   pub goes_on : GoesOn chain.held next.held marks turns
+  pub keeps : Keeps next turns
 
 -- ---- why a segment isn't judged
 
@@ -140,10 +149,10 @@ TellsChecked segment said lines = PrintsVerdict (transcript_of segment.transcrip
 -- ---- what is searched
 
 -- the bytes are a segment, which is linked, of which a search from what is held found this
-pub record AreSearchedNext (chain : Chain) (next : Links) (name : List ℕ) (segment : FoundSegment) (t : List ℕ) (budget : ℕ) : Type 0 where
+pub record AreSearchedNext (chain : Chain) (next : Links) (name : List ℕ) (segment : FoundSegment) (t : List ℕ) (seconds budget : ℕ) : Type 0 where
   pub marks : List MarkOf
   pub read : AreReadNext chain.links next name t marks
-  pub found : SearchesSegment marks (declaration_of chain.held.declaration) chain.held.until budget false (Ok segment)
+  pub found : SearchesSegment marks (declaration_of chain.held.declaration) chain.held.until seconds budget false (Ok segment)
 
 -- the bytes are a segment with this fault
 pub record AreUnsearchedNext (fault : CheckFault) (t : List ℕ) : Type 0 where
@@ -152,17 +161,24 @@ pub record AreUnsearchedNext (fault : CheckFault) (t : List ℕ) : Type 0 where
   pub stops : SearchStops marks fault
 
 -- what a search of the next segment answers
-abbrev pub SearchesNext : Chain → Links → List ℕ → List ℕ → Bool → ℕ → Result FoundSegment Unjudged → Type 0
-SearchesNext chain next name t failed_t budget (Ok segment) = AreSearchedNext chain next name segment t budget
-SearchesNext chain next name t failed_t budget (Err (Fault (audit.Transcript f))) = Tells TranscriptFault IsTranscriptUpTo t failed_t f
-SearchesNext chain next name t failed_t budget (Err (Fault (audit.Declaration f))) = ⊥
-SearchesNext chain next name t failed_t budget (Err (Fault (audit.Witness f))) = ⊥
-SearchesNext chain next name t failed_t budget (Err (Fault (audit.Check f))) = AreUnsearchedNext f t
-SearchesNext chain next name t failed_t budget (Err (Gap gap)) = HasGap chain.links name t gap
+abbrev pub SearchesNext : Chain → Links → List ℕ → List ℕ → Bool → ℕ → ℕ → Result FoundSegment Unjudged → Type 0
+SearchesNext chain next name t failed_t seconds budget (Ok segment) = AreSearchedNext chain next name segment t seconds budget
+SearchesNext chain next name t failed_t seconds budget (Err (Fault (audit.Transcript f))) = Tells TranscriptFault IsTranscriptUpTo t failed_t f
+SearchesNext chain next name t failed_t seconds budget (Err (Fault (audit.Declaration f))) = ⊥
+SearchesNext chain next name t failed_t seconds budget (Err (Fault (audit.Witness f))) = ⊥
+SearchesNext chain next name t failed_t seconds budget (Err (Fault (audit.Check f))) = AreUnsearchedNext f t
+SearchesNext chain next name t failed_t seconds budget (Err (Gap gap)) = HasGap chain.links name t gap
 
 -- the lines of what was found
 abbrev pub TellsSearched : FoundSegment → Status → List ℕ → Type 0
 TellsSearched segment said lines = (said ≡ found_status segment.searched.found) × (lines ≡ forced_text segment.searched.forced ++ found_text segment.searched.found)
+
+-- the witness that was found, if one was
+abbrev pub found_witness : Found → Option Witness
+found_witness (Yes witness count) = Some witness
+found_witness (GaveUp count) = None
+found_witness (Refuted count object) = None
+found_witness (OutOfTime count after) = None
 
 -- ---- what is held next
 
@@ -179,3 +195,5 @@ LeavesWhereFound (GaveUp count) (Some left) P = ⊥
 LeavesWhereFound (GaveUp count) None P = Unit {0}
 LeavesWhereFound (Refuted count object) (Some left) P = ⊥
 LeavesWhereFound (Refuted count object) None P = Unit {0}
+LeavesWhereFound (OutOfTime count after) (Some left) P = ⊥
+LeavesWhereFound (OutOfTime count after) None P = Unit {0}

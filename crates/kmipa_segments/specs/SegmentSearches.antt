@@ -13,9 +13,9 @@ use Rattle.kmipa_check.specs.Since.{AreSince, IsAcceptedSince}
 use Rattle.kmipa_check.specs.declared.auditing.AuditFault.{AuditFault}
 use Rattle.kmipa_check.specs.declared.fault.CheckFault.{CheckFault}
 use Rattle.kmipa_check.specs.declared.segment.Left.{Left}
-use Rattle.kmipa_search.specs.Found.{Finds, HasDecided}
+use Rattle.kmipa_search.specs.Found.{Finds, FindsIn, HasDecided}
 use Rattle.kmipa_search.specs.declared.found.Found.{Found}
-use Rattle.kmipa_search.specs.declared.found.Found.TheVariants.{Yes, GaveUp, Refuted}
+use Rattle.kmipa_search.specs.declared.found.Found.TheVariants.{Yes, GaveUp, Refuted, OutOfTime}
 use Rattle.kmipa_runs.specs.Lines.{PrintsFault}
 use Rattle.kmipa_runs.specs.Searches.{found_text, forced_text, IsForcedTold, Makes, PrintsSearch, SearchFails, SearchStops}
 use Rattle.kmipa_runs.specs.declared.searched.Searched.{Searched}
@@ -51,36 +51,39 @@ pub data HasDecidedSince (calls : List CallOf) (since : Option ℤ) (budget coun
 
 -- A yes is that of a search, with a witness that is accepted from the moment on, and leads to what is left. Giving up comes only where all
 -- messages are inside, also where the search found a witness that takes a call below the moment; where it has decided, and moments are stamps, it
--- tells that nothing explains these calls from the moment on; and so it tells where one object refutes them.
-abbrev pub FindsSince : List MarkOf → DeclarationOf → Option ℤ → ℕ → Found → Option Left → Type 0
-FindsSince marks declared since budget (Yes witness count) (Some left) = Finds marks declared budget (Yes witness count)
+-- tells that nothing explains these calls from the moment on; and so it tells where one object refutes them. Where the seconds of the search are
+-- over, nothing is told of them.
+abbrev pub FindsSince : List MarkOf → DeclarationOf → Option ℤ → ℕ → ℕ → Found → Option Left → Type 0
+FindsSince marks declared since seconds budget (Yes witness count) (Some left) = Finds marks declared budget (Yes witness count)
     × IsAcceptedSince marks declared since (witness_of witness) × Leads declared since marks (witness_of witness) (declaration_of left.declaration) left.until
-FindsSince marks declared since budget (Yes witness count) None = ⊥
-FindsSince marks declared since budget (GaveUp count) (Some left) = ⊥
-FindsSince marks declared since budget (GaveUp count) None = (count ≤ budget)
+FindsSince marks declared since seconds budget (Yes witness count) None = ⊥
+FindsSince marks declared since seconds budget (GaveUp count) (Some left) = ⊥
+FindsSince marks declared since seconds budget (GaveUp count) None = (count ≤ budget)
     × ((calls : List CallOf) × AreCalls marks calls
     × (GrantsNothing (grants_declared declared) → HasDecidedSince calls since budget count → IsExplainedSince marks declared since → ⊥))
-FindsSince marks declared since budget (Refuted count object) (Some left) = ⊥
-FindsSince marks declared since budget (Refuted count object) None = (count ≤ budget) × (IsExplainedSince marks declared since → ⊥)
+FindsSince marks declared since seconds budget (Refuted count object) (Some left) = ⊥
+FindsSince marks declared since seconds budget (Refuted count object) None = (count ≤ budget) × (IsExplainedSince marks declared since → ⊥)
+FindsSince marks declared since seconds budget (OutOfTime count after) (Some left) = ⊥
+FindsSince marks declared since seconds budget (OutOfTime count after) None = FindsIn seconds marks declared budget (OutOfTime count after)
 
 -- what a search of the records of a segment answers
-abbrev pub SearchesSegment : List MarkOf → DeclarationOf → Option ℤ → ℕ → Bool → Result FoundSegment CheckFault → Type 0
-SearchesSegment marks declared since budget asked (Ok segment) =
-    IsForcedTold marks asked segment.searched.forced × FindsSince marks declared since budget segment.searched.found segment.left
-SearchesSegment marks declared since budget asked (Err fault) = SearchStops marks fault
+abbrev pub SearchesSegment : List MarkOf → DeclarationOf → Option ℤ → ℕ → ℕ → Bool → Result FoundSegment CheckFault → Type 0
+SearchesSegment marks declared since seconds budget asked (Ok segment) =
+    IsForcedTold marks asked segment.searched.forced × FindsSince marks declared since seconds budget segment.searched.found segment.left
+SearchesSegment marks declared since seconds budget asked (Err fault) = SearchStops marks fault
 
 -- the bytes are records of which a search found this
-pub record AreSearchedSince (segment : FoundSegment) (t d : List ℕ) (since : Option ℤ) (budget : ℕ) (asked : Bool) : Type 0 where
+pub record AreSearchedSince (segment : FoundSegment) (t d : List ℕ) (since : Option ℤ) (seconds budget : ℕ) (asked : Bool) : Type 0 where
   pub marks : List MarkOf
   pub transcript : IsTranscript t marks
   pub declared : DeclarationOf
   pub declaration : IsDeclaration d declared
-  pub found : SearchesSegment marks declared since budget asked (Ok segment)
+  pub found : SearchesSegment marks declared since seconds budget asked (Ok segment)
 
 -- what a search of two files answers; its faults are those of a search without a moment
-abbrev pub SearchesSince : List ℕ → List ℕ → Bool → Bool → Option ℤ → ℕ → Bool → Result FoundSegment AuditFault → Type 0
-SearchesSince t d failed_t failed_d since budget asked (Ok segment) = AreSearchedSince segment t d since budget asked
-SearchesSince t d failed_t failed_d since budget asked (Err fault) = SearchFails t d failed_t failed_d fault
+abbrev pub SearchesSince : List ℕ → List ℕ → Bool → Bool → Option ℤ → ℕ → ℕ → Bool → Result FoundSegment AuditFault → Type 0
+SearchesSince t d failed_t failed_d since seconds budget asked (Ok segment) = AreSearchedSince segment t d since seconds budget asked
+SearchesSince t d failed_t failed_d since seconds budget asked (Err fault) = SearchFails t d failed_t failed_d fault
 
 -- what was found without what the transcript is known by
 abbrev pub found_alone : Result KnownSegment AuditFault → Result FoundSegment AuditFault

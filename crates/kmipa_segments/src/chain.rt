@@ -1,25 +1,19 @@
 //! A chain of segments of one recording, judged one after the other in the memory of one.
 
-ghost use Rattle.std.specs.Prelude.{◌≡◌, ◌≢◌, ◌⊎◌, ℕ, List, [], Some, None, Ok, IsTrue, IfOk, IfErr, Result};
-ghost use Rattle.std.specs.Io.{StartsWith, appended_bytes};
-ghost use Rattle.kmipa_ttlv.specs.Input.{came_of, is_ended, is_failed, IsFileOf};
-ghost use Rattle.kmipa_record.specs.Declarations.{AreDeclared, declaration_of, DeclarationFault, IsDeclaration, IsDeclarationUpTo};
-ghost use Rattle.kmipa_record.specs.Files.{Tells};
-ghost use Rattle.kmipa_record.specs.Transcripts.{transcript_of};
-ghost use Rattle.kmipa_record.specs.Witnesses.{witness_of};
-ghost use Rattle.kmipa_check.specs.Left.{LeavesAtYes};
-ghost use Rattle.kmipa_runs.specs.Lines.{PrintsFault, PrintsVerdict};
-ghost use Rattle.kmipa_runs.specs.Statuses.{IsSilent};
-ghost use Rattle.kmipa_links.specs.Linking.{HaveLinked};
-ghost use Rattle.kmipa_segments.specs.Chains.{AreChained, ChecksNext, GoesOnBy, GoesOnSomehow, IsSomeDeclared, LeavesWhereFound, SearchesNext, TellsChecked, TellsJudged, TellsSearched};
+ghost use Rattle.std.specs.Prelude.{◌≡◌};
+ghost use Rattle.std.specs.Option.{ForSome};
+ghost use Rattle.kmipa_store.specs.States.{state_of_journal};
+ghost use Rattle.kmipa_record.specs.Declarations.{declaration_of};
+ghost use Rattle.kmipa_check.specs.Opening.{opened_by};
 
 use crate::next::{NextSegment, Unjudged, check_next_inputs, search_next_input};
-use crate::segment_search::FoundSegment;
+use crate::segment_search::{FoundSegment, found_witness};
 use kmipa_check::{AuditFault, Left};
 use kmipa_links::Links;
-use kmipa_record::{RecordFault, read_declaration};
+use kmipa_record::{RecordFault, Witness, read_declaration};
 use kmipa_runs::{Status, append, fault_lines, report, searched_lines};
-use kmipa_search::{Found, Watch};
+use kmipa_search::Watch;
+use kmipa_store::Journal;
 use kmipa_ttlv::Input;
 use std::alloc::Global;
 use std::io::Read;
@@ -32,9 +26,28 @@ pub struct Chain {
     pub calls: u64,
     /// The segments, each linked behind those before it.
     pub links: Links,
+    /// The witness by which the last segment was judged, where that was a yes.
+    pub witness: Option<Witness>,
+    // A ledger that stands as the declaration that is held opens it, where one is kept.
+    pub(crate) ledger: Option<Journal>,
+    ghost stands: { ForSome ledger (λ own.
+        (state_of_journal own).now ≡ opened_by (declaration_of held.declaration).entries) },
 }
 
 impl Chain {
+    ghost use Rattle.std.specs.Prelude.{◌≢◌, ◌⊎◌, ℕ, List, [], Some, None, Ok, IsTrue, IfOk, IfErr, IfSome, Result};
+    ghost use Rattle.std.specs.Io.{StartsWith, appended_bytes};
+    ghost use Rattle.kmipa_ttlv.specs.Input.{came_of, is_ended, is_failed, IsFileOf};
+    ghost use Rattle.kmipa_record.specs.Declarations.{AreDeclared, DeclarationFault, IsDeclaration, IsDeclarationUpTo};
+    ghost use Rattle.kmipa_record.specs.Files.{Tells};
+    ghost use Rattle.kmipa_record.specs.Transcripts.{transcript_of};
+    ghost use Rattle.kmipa_record.specs.Witnesses.{witness_of};
+    ghost use Rattle.kmipa_check.specs.Left.{LeavesAtYes};
+    ghost use Rattle.kmipa_runs.specs.Lines.{PrintsFault, PrintsVerdict};
+    ghost use Rattle.kmipa_runs.specs.Statuses.{IsSilent};
+    ghost use Rattle.kmipa_links.specs.Linking.{HaveLinked};
+    ghost use Rattle.kmipa_segments.specs.Chains.{AreChained, ChecksNext, found_witness, GoesOnBy, GoesOnSomehow, IsSomeDeclared, LeavesWhereFound, SearchesNext, TellsChecked, TellsJudged, TellsSearched};
+
     /// The chain of no segments, which holds the declaration that is read of an input of which nothing was read. Where that is none, appends
     /// the line of its first fault and answers the status.
     pub fn read<R: Read>(
@@ -63,6 +76,8 @@ impl Chain {
                 },
                 calls: 0,
                 links: Links::new(alloc),
+                witness: None,
+                ledger: None,
             }),
             Err(fault) => Err(append(fault_lines(alloc, &AuditFault::Declaration(fault)), out)),
         }
@@ -70,7 +85,7 @@ impl Chain {
 
     /// Judges the next segment by its witness, from what the segments so far leave, and from their last stamp on; it is linked behind them while
     /// it is read. Appends the lines of the verdict and answers the status, or why it wasn't judged. At a yes the chain then holds what this
-    /// segment leaves. Behind any other answer it can't go on.
+    /// segment leaves, and the witness. Behind any other answer it can't go on.
     pub fn check_next<R: Read>(
         &mut self,
         alloc: Global,
@@ -92,13 +107,16 @@ impl Chain {
         ensures goes_on { result ≡ Ok Status.Done
             → GoesOnBy self.old self.new name.now (came_of transcript.new) (came_of witness.new)
             × IsTrue (is_ended transcript.new) × IsTrue (is_ended witness.new) }
-        ensures kept { result ≢ Ok Status.Done → self.new.held ≡ self.old.held }
+        ensures kept { result ≢ Ok Status.Done → (self.new.held ≡ self.old.held) × (self.new.witness ≡ None) }
         ensures declared { AreDeclared (declaration_of self.new.held.declaration) }
         ensures appends { StartsWith out.new.items out.old.items }
     {
         match check_next_inputs(alloc, self, name, transcript, witness) {
             Ok(segment) => Ok(self.take_checked(alloc, segment, out)),
-            Err(unjudged) => Err(unjudged),
+            Err(unjudged) => {
+                self.witness = None;
+                Err(unjudged)
+            }
         }
     }
 
@@ -117,17 +135,21 @@ impl Chain {
         // What is printed tells what a search answers of whatever the input may be, or memory ran out.
         ensures prints { (outcome : Result FoundSegment Unjudged)
             × ((t : List ℕ) → IsFileOf t transcript.new
-            → SearchesNext self.old self.new.links name.now t (is_failed transcript.new) budget outcome)
+            → SearchesNext self.old self.new.links name.now t (is_failed transcript.new)
+            (W.seconds watch.old) budget outcome)
             × TellsJudged TellsSearched outcome result (appended_bytes out.old.items out.new.items) }
         ensures goes_on { result ≡ Ok Status.Done
             → GoesOnSomehow self.old self.new name.now (came_of transcript.new) × IsTrue (is_ended transcript.new) }
-        ensures kept { result ≢ Ok Status.Done → self.new.held ≡ self.old.held }
+        ensures kept { result ≢ Ok Status.Done → (self.new.held ≡ self.old.held) × (self.new.witness ≡ None) }
         ensures declared { AreDeclared (declaration_of self.new.held.declaration) }
         ensures appends { StartsWith out.new.items out.old.items }
     {
         match search_next_input(alloc, self, name, transcript, budget, watch) {
             Ok(segment) => Ok(self.take_found(alloc, segment, out)),
-            Err(unjudged) => Err(unjudged),
+            Err(unjudged) => {
+                self.witness = None;
+                Err(unjudged)
+            }
         }
     }
 
@@ -136,11 +158,14 @@ impl Chain {
         requires declared { AreDeclared (declaration_of self.old.held.declaration) }
         requires leaves { LeavesAtYes segment.checked.verdict segment.checked.left
             (λ left. AreDeclared (declaration_of left.declaration)) }
+        requires stands { IfSome segment.ledger (λ own. IfSome segment.checked.left (λ left.
+            (state_of_journal own).now ≡ opened_by (declaration_of left.declaration).entries)) }
         ensures prints { PrintsVerdict (transcript_of segment.transcript) (witness_of segment.witness)
             segment.checked.verdict result (appended_bytes out.old.items out.new.items)
             ⊎ IsSilent result (appended_bytes out.old.items out.new.items) }
-        ensures taken { result ≡ Status.Done → segment.checked.left ≡ Some self.new.held }
-        ensures kept { result ≢ Status.Done → self.new.held ≡ self.old.held }
+        ensures taken { result ≡ Status.Done → (segment.checked.left ≡ Some self.new.held)
+            × (self.new.witness ≡ Some segment.witness) }
+        ensures kept { result ≢ Status.Done → (self.new.held ≡ self.old.held) × (self.new.witness ≡ None) }
         ensures links { self.new.links ≡ self.old.links }
         ensures declared { AreDeclared (declaration_of self.new.held.declaration) }
         ensures appends { StartsWith out.new.items out.old.items }
@@ -149,9 +174,11 @@ impl Chain {
             transcript,
             witness,
             checked,
+            ledger,
         } = segment;
+        self.witness = None;
         match report(alloc, &checked.verdict, &transcript, &witness, out) {
-            Status::Done => self.hold(checked.left, witness.turns.len()),
+            Status::Done => self.hold(checked.left, Some(witness), ledger),
             status => status,
         }
     }
@@ -163,40 +190,55 @@ impl Chain {
             (λ left. AreDeclared (declaration_of left.declaration)) }
         ensures prints { TellsSearched segment result (appended_bytes out.old.items out.new.items)
             ⊎ IsSilent result (appended_bytes out.old.items out.new.items) }
-        ensures taken { result ≡ Status.Done → segment.left ≡ Some self.new.held }
-        ensures kept { result ≢ Status.Done → self.new.held ≡ self.old.held }
+        ensures taken { result ≡ Status.Done → (segment.left ≡ Some self.new.held)
+            × (self.new.witness ≡ found_witness segment.searched.found) }
+        ensures kept { result ≢ Status.Done → (self.new.held ≡ self.old.held) × (self.new.witness ≡ None) }
         ensures links { self.new.links ≡ self.old.links }
         ensures declared { AreDeclared (declaration_of self.new.held.declaration) }
         ensures appends { StartsWith out.new.items out.old.items }
     {
         let FoundSegment { searched, left } = segment;
+        self.witness = None;
         match append(searched_lines(alloc, &searched), out) {
-            Status::Done => self.hold(left, calls_found(&searched.found)),
+            Status::Done => self.hold(left, found_witness(searched.found), None),
             status => status,
         }
     }
 
-    /// Holds what a segment of so many calls leaves.
-    fn hold(&mut self, left: Option<Left>, calls: usize) -> Status
-        requires { IsSomeDeclared left }
+    /// Holds what a segment leaves that was judged by this witness, the witness, and a ledger that stands as that opens it, where there is one.
+    fn hold(
+        &mut self,
+        left: Option<Left>,
+        witness: Option<Witness>,
+        ledger: Option<Journal>,
+    ) -> Status
+        requires declared { IsSomeDeclared left }
+        requires stands { IfSome ledger (λ own. IfSome left (λ left.
+            (state_of_journal own).now ≡ opened_by (declaration_of left.declaration).entries)) }
         ensures done { result ≡ Status.Done }
         ensures holds { left ≡ Some self.new.held }
+        ensures keeps { self.new.witness ≡ witness }
         ensures links { self.new.links ≡ self.old.links }
         ensures declared { AreDeclared (declaration_of self.new.held.declaration) }
     {
+        self.calls = self.calls.saturating_add(count_turns(&witness) as u64);
+        self.witness = witness;
+        self.ledger = None;
         match left {
-            Some(left) => self.held = left,
+            Some(left) => {
+                self.held = left;
+                self.ledger = ledger;
+            }
             None => {}
         }
-        self.calls = self.calls.saturating_add(calls as u64);
         Status::Done
     }
 }
 
-/// How many calls a witness takes that was found.
-fn calls_found(found: &Found) -> usize {
-    match found {
-        Found::Yes(witness, _) => witness.turns.len(),
-        Found::GaveUp(_) | Found::Refuted(_, _) => 0,
+/// How many calls it takes.
+fn count_turns(witness: &Option<Witness>) -> usize {
+    match witness {
+        Some(witness) => witness.turns.len(),
+        None => 0,
     }
 }

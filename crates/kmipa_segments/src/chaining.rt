@@ -8,8 +8,9 @@ ghost use Rattle.kmipa_record.specs.Files.{Tells};
 ghost use Rattle.kmipa_record.specs.declared.fault.RecordFault.{RecordFault};
 ghost use Rattle.kmipa_check.specs.declared.auditing.AuditFault.{AuditFault};
 ghost use Rattle.kmipa_runs.specs.Lines.{PrintsFault};
+ghost use Rattle.kmipa_runs.specs.Searches.{found_status, found_text};
 ghost use Rattle.kmipa_runs.specs.Statuses.{IsSilent};
-ghost use Rattle.kmipa_segments.specs.Chaining.{EndsChain, IsChain, IsNextOf, chain_text};
+ghost use Rattle.kmipa_segments.specs.Chaining.{EndsChain, IsChain, IsKept, IsKeptNext, IsNextOf, chain_text};
 ghost use Rattle.kmipa_segments.specs.Chains.{ChecksNext, IsNamed, PrintsJudged, PrintsUnjudged, SearchesNext, TellsChecked, TellsSearched};
 ghost use Rattle.kmipa_segments.specs.Comparing.{ComparesFile, Fits, PrintsCompared};
 ghost use Rattle.kmipa_segments.specs.Leaving.{PrintsLeft};
@@ -23,8 +24,9 @@ use crate::gaps::gap_lines;
 use crate::leaving::{left_lines, tell_left};
 use crate::next::Unjudged;
 use kmipa_check::{AuditFault, Left};
-use kmipa_runs::{Status, append, fault_lines};
-use kmipa_search::Watch;
+use kmipa_record::write_witness;
+use kmipa_runs::{Searched, Status, append, fault_lines, searched_lines};
+use kmipa_search::{Found, Watch};
 use kmipa_ttlv::Input;
 use std::alloc::{AllocError, Global};
 use std::io::Read;
@@ -76,6 +78,9 @@ pub fn chain_check<R: Read>(
         → IsNextOf chain.old chain.new
         (record { name = name.now; transcript = came_of transcript.new; witness = Some (came_of witness.new) })
         × IsTrue (is_ended transcript.new) × IsTrue (is_ended witness.new) }
+    // Then chain_witness makes a witness by which this segment goes on; behind a no it makes none.
+    ensures kept { result ≡ Status.Done → IsKeptNext chain.old chain.new name.now (came_of transcript.new) }
+    ensures let_go { result ≢ Status.Done → (result ≡ Status.Failed) ⊎ (chain.new.witness ≡ None) }
     ensures declared { AreDeclared (declaration_of chain.new.held.declaration) }
     ensures appends { StartsWith out.new.items out.old.items }
 {
@@ -100,13 +105,17 @@ pub fn chain_search<R: Read, W: Watch>(
     requires transcript { came_of transcript.old ≡ [] }
     ensures prints { (outcome : Result FoundSegment Unjudged)
         × ((t : List ℕ) → IsFileOf t transcript.new
-        → SearchesNext chain.old chain.new.links name.now t (is_failed transcript.new) budget outcome)
+        → SearchesNext chain.old chain.new.links name.now t (is_failed transcript.new)
+        (W.seconds watch.old) budget outcome)
         × (PrintsJudged TellsSearched name.now outcome result (appended_bytes out.old.items out.new.items)
         ⊎ IsSilent result (appended_bytes out.old.items out.new.items)) }
     ensures goes_on { result ≡ Status.Done
         → IsNextOf chain.old chain.new
         (record { name = name.now; transcript = came_of transcript.new; witness = None })
         × IsTrue (is_ended transcript.new) }
+    // Then chain_witness makes a witness by which this segment goes on; behind a no it makes none.
+    ensures kept { result ≡ Status.Done → IsKeptNext chain.old chain.new name.now (came_of transcript.new) }
+    ensures let_go { result ≢ Status.Done → (result ≡ Status.Failed) ⊎ (chain.new.witness ≡ None) }
     ensures declared { AreDeclared (declaration_of chain.new.held.declaration) }
     ensures appends { StartsWith out.new.items out.old.items }
 {
@@ -114,6 +123,22 @@ pub fn chain_search<R: Read, W: Watch>(
     match chain.search_next(alloc, name, transcript, budget, watch, &mut told) {
         Ok(status) => append_named(alloc, name, &told, status, out),
         Err(unjudged) => tell_unjudged(alloc, name, &unjudged, out),
+    }
+}
+
+/// Appends the witness by which the last segment was judged to `made`, as a file, where that was a yes. Where it wasn't, and where memory runs out,
+/// nothing is appended, and the status is `Failed`.
+pub fn chain_witness(alloc: Global, chain: &Chain, made: &mut Vec<u8>) -> Status
+    ensures made { result ≡ Status.Done → IsKept chain.now (appended_bytes made.old.items made.new.items) }
+    ensures nothing { result ≢ Status.Done → (result ≡ Status.Failed) × (made.new.items ≡ made.old.items) }
+    ensures makes { StartsWith made.new.items made.old.items }
+{
+    let Some(witness) = &chain.witness else {
+        return Status::Failed;
+    };
+    match write_witness(alloc, witness, made) {
+        Ok(()) => Status::Done,
+        Err(_) => Status::Failed,
     }
 }
 
@@ -138,6 +163,26 @@ fn tell_fault(alloc: Global, name: &str, fault: &AuditFault, out: &mut Vec<u8>) 
     ensures appends { StartsWith out.new.items out.old.items }
 {
     match fault_lines(alloc, fault) {
+        Ok(lines) => append_named(alloc, name, lines.text.as_bytes(), lines.status, out),
+        Err(_) => Status::Failed,
+    }
+}
+
+/// Appends that a segment isn't judged, since so many seconds, all that the chain has, are over: its name, and the line of a search that ended
+/// ahead of its first step. The status is never `Done`. Where memory runs out nothing is appended, and the status is `Failed`.
+pub fn chain_out_of_time(alloc: Global, name: &str, seconds: u64, out: &mut Vec<u8>) -> Status
+    ensures tells { ((result ≡ found_status (Found.OutOfTime 0 seconds))
+        × IsNamed name.now (λ told. told ≡ found_text (Found.OutOfTime 0 seconds))
+        (appended_bytes out.old.items out.new.items))
+        ⊎ IsSilent result (appended_bytes out.old.items out.new.items) }
+    ensures undone { result ≢ Status.Done }
+    ensures appends { StartsWith out.new.items out.old.items }
+{
+    let searched = Searched {
+        forced: None,
+        found: Found::OutOfTime(0, seconds),
+    };
+    match searched_lines(alloc, &searched) {
         Ok(lines) => append_named(alloc, name, lines.text.as_bytes(), lines.status, out),
         Err(_) => Status::Failed,
     }

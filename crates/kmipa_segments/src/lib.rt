@@ -14,7 +14,10 @@ mod parts;
 mod segment_search;
 
 pub use chain::Chain;
-pub use chaining::{chain_begin, chain_check, chain_compare, chain_end, chain_search};
+pub use chaining::{
+    chain_begin, chain_check, chain_compare, chain_end, chain_out_of_time, chain_search,
+    chain_witness,
+};
 pub use comparing::{Compared, Difference};
 pub use gaps::sealed_line;
 pub use leaving::{Segment, segment_run};

@@ -1,17 +1,20 @@
 //! The next segment of a chain, read, linked and judged from what the segments before it leave.
 
-ghost use Rattle.std.specs.Prelude.{◌≡◌, ℕ, List, [], IsTrue, IfErr, IfOk, OnOk};
+ghost use Rattle.std.specs.Prelude.{◌≡◌, ℕ, List, [], IsTrue, IfErr, IfOk, IfSome, OnOk};
 ghost use Rattle.kmipa_ttlv.specs.Input.{came_of, is_ended, is_failed, IsFileOf};
+ghost use Rattle.kmipa_store.specs.States.{state_of_journal};
 ghost use Rattle.kmipa_record.specs.Declarations.{AreDeclared, declaration_of};
 ghost use Rattle.kmipa_record.specs.Transcripts.{transcript_of};
+ghost use Rattle.kmipa_check.specs.Opening.{opened_by};
 ghost use Rattle.kmipa_segments.specs.Chains.{AreReadNext, ChecksNext, IsUnreadNext, SearchesNext};
 
 use crate::chain::Chain;
 use crate::segment_search::{FoundSegment, search_segment};
-use kmipa_check::{AuditFault, Checked, check_segment};
+use kmipa_check::{AuditFault, Checked, check_segment_on};
 use kmipa_links::{Gap, Links, Unlinked, read_segment};
 use kmipa_record::{Transcript, Witness, read_witness};
 use kmipa_search::Watch;
+use kmipa_store::Journal;
 use kmipa_ttlv::Input;
 use std::alloc::Global;
 use std::io::Read;
@@ -22,6 +25,8 @@ pub struct NextSegment {
     pub transcript: Transcript,
     pub witness: Witness,
     pub checked: Checked,
+    /// A ledger that stands as what is left opens it, where one is kept.
+    pub ledger: Option<Journal>,
 }
 
 /// Why the next segment wasn't judged.
@@ -49,6 +54,8 @@ pub fn check_next_inputs<R: Read>(
         → ChecksNext chain.old chain.new.links name.now t w (is_failed transcript.new) (is_failed witness.new)
         result }
     ensures ended { OnOk result (IsTrue (is_ended transcript.new) × IsTrue (is_ended witness.new)) }
+    ensures stands { IfOk result (λ segment. IfSome segment.ledger (λ own. IfSome segment.checked.left (λ left.
+        (state_of_journal own).now ≡ opened_by (declaration_of left.declaration).entries))) }
     ensures held { chain.new.held ≡ chain.old.held }
 {
     let transcript = match read_linked(alloc, &mut chain.links, name, transcript) {
@@ -59,12 +66,15 @@ pub fn check_next_inputs<R: Read>(
         Ok(witness) => witness,
         Err(fault) => return Err(Unjudged::Fault(AuditFault::Witness(fault))),
     };
+    let kept = chain.ledger.take();
     let held = &chain.held;
-    match check_segment(alloc, &transcript, &held.declaration, &witness, held.until) {
-        Ok(checked) => Ok(NextSegment {
+    let since = held.until;
+    match check_segment_on(alloc, &transcript, &held.declaration, &witness, since, kept) {
+        Ok(on) => Ok(NextSegment {
             transcript,
             witness,
-            checked,
+            checked: on.checked,
+            ledger: on.ledger,
         }),
         Err(fault) => Err(Unjudged::Fault(AuditFault::Check(fault))),
     }
@@ -82,7 +92,8 @@ pub fn search_next_input<R: Read, W: Watch>(
     requires declared { AreDeclared (declaration_of chain.old.held.declaration) }
     requires transcript { came_of transcript.old ≡ [] }
     ensures searches { (t : List ℕ) → IsFileOf t transcript.new
-        → SearchesNext chain.old chain.new.links name.now t (is_failed transcript.new) budget result }
+        → SearchesNext chain.old chain.new.links name.now t (is_failed transcript.new)
+        (W.seconds watch.old) budget result }
     ensures ended { OnOk result (IsTrue (is_ended transcript.new)) }
     ensures held { chain.new.held ≡ chain.old.held }
 {

@@ -11,6 +11,7 @@ ghost use Rattle.kmipa_search.specs.declared.found.Found.TheVariants.{Yes};
 ghost use Rattle.kmipa_runs.specs.Knowing.{Known, KnowsSeals};
 ghost use Rattle.kmipa_runs.specs.Searches.{IsForcedTold, Makes};
 ghost use Rattle.kmipa_runs.specs.Statuses.{IsSilent};
+ghost use Rattle.kmipa_segments.specs.Chains.{found_witness};
 ghost use Rattle.kmipa_segments.specs.Leaving.{LeadsAsAsked, if_asked};
 ghost use Rattle.kmipa_segments.specs.SegmentSearches.{PrintsSegmentSearch, SearchesSegment, SearchesSince, TellsBoth, TellsFound, found_alone};
 
@@ -67,7 +68,8 @@ pub fn search_segment_run<R: Read, W: Watch>(
     // What is made and printed tells what a search answers of whatever the inputs may be, or memory ran out.
     ensures prints { (outcome : Result FoundSegment AuditFault)
         × ((t d : List ℕ) → IsFileOf t transcript.new → IsFileOf d declaration.new
-        → SearchesSince t d (is_failed transcript.new) (is_failed declaration.new) since budget forced outcome)
+        → SearchesSince t d (is_failed transcript.new) (is_failed declaration.new) since
+        (W.seconds watch.old) budget forced outcome)
         × (PrintsSegmentSearch leaves outcome result.status (appended_bytes out.old.items out.new.items)
         (appended_bytes made.old.items made.new.items)
         (appended_bytes left.old.items left.new.items)
@@ -122,7 +124,8 @@ fn search_inputs<R: Read, W: Watch>(
     requires transcript { came_of transcript.old ≡ [] }
     requires declaration { came_of declaration.old ≡ [] }
     ensures searches { (t d : List ℕ) → IsFileOf t transcript.new → IsFileOf d declaration.new
-        → SearchesSince t d (is_failed transcript.new) (is_failed declaration.new) since budget forced
+        → SearchesSince t d (is_failed transcript.new) (is_failed declaration.new) since
+        (W.seconds watch.old) budget forced
         (found_alone result) }
     ensures known { IfOk result (λ known. Known (came_of transcript.new) known.head) }
     ensures ended { OnOk result (IsTrue (is_ended transcript.new) × IsTrue (is_ended declaration.new)) }
@@ -166,7 +169,8 @@ pub fn search_segment<W: Watch>(
 ) -> Result<FoundSegment, CheckFault>
     requires { AreDeclared (declaration_of declaration.now) }
     ensures { AreRecorded (transcript_of transcript.now)
-        → SearchesSegment (transcript_of transcript.now) (declaration_of declaration.now) since budget forced result }
+        → SearchesSegment (transcript_of transcript.now) (declaration_of declaration.now) since
+        (W.seconds watch.old) budget forced result }
 {
     let searched = match search_records(
         alloc,
@@ -200,6 +204,13 @@ pub fn search_segment<W: Watch>(
             },
             left: None,
         }),
+        Found::OutOfTime(count, after) => Ok(FoundSegment {
+            searched: Searched {
+                forced,
+                found: Found::OutOfTime(count, after),
+            },
+            left: None,
+        }),
     }
 }
 
@@ -214,10 +225,10 @@ fn go_on(
     count: u64,
 ) -> Result<FoundSegment, CheckFault>
     requires { AreDeclared (declaration_of declaration.now) }
-    ensures { (budget : ℕ) (asked : Bool) → AreRecorded (transcript_of transcript.now)
+    ensures { (seconds budget : ℕ) (asked : Bool) → AreRecorded (transcript_of transcript.now)
         → IsForcedTold (transcript_of transcript.now) asked forced
         → Finds (transcript_of transcript.now) (declaration_of declaration.now) budget (Yes witness count)
-        → SearchesSegment (transcript_of transcript.now) (declaration_of declaration.now) since budget asked result }
+        → SearchesSegment (transcript_of transcript.now) (declaration_of declaration.now) since seconds budget asked result }
 {
     let checked = match check_segment(alloc, transcript, declaration, &witness, since) {
         Ok(checked) => checked,
@@ -246,6 +257,16 @@ fn gave_up(forced: Option<bool>, count: u64) -> FoundSegment
             found: Found::GaveUp(count),
         },
         left: None,
+    }
+}
+
+/// The witness that was found, if one was.
+pub fn found_witness(found: Found) -> Option<Witness>
+    ensures { result ≡ found_witness found }
+{
+    match found {
+        Found::Yes(witness, _) => Some(witness),
+        Found::GaveUp(_) | Found::Refuted(_, _) | Found::OutOfTime(_, _) => None,
     }
 }
 
@@ -344,5 +365,6 @@ fn make_found(alloc: Global, found: &Found, made: &mut Vec<u8>) -> Result<(), Re
         Found::Yes(witness, _) => write_witness(alloc, witness, made),
         Found::GaveUp(_) => Ok(()),
         Found::Refuted(_, _) => Ok(()),
+        Found::OutOfTime(_, _) => Ok(()),
     }
 }

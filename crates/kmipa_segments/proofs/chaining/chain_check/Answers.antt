@@ -3,7 +3,7 @@ use Rattle.kmipa_ttlv.specs.Input.{came_of}
 use Rattle.kmipa_runs.specs.declared.status.Status.{Status}
 use Rattle.kmipa_segments.specs.Chains.{TellsChecked}
 use Rattle.kmipa_segments.specs.declared.next.NextSegment.{NextSegment}
-use Rattle.kmipa_segments.proofs.ChainingLemmas.{judged_printed, next_by, unjudged_printed, was_done}
+use Rattle.kmipa_segments.proofs.ChainingLemmas.{judged_printed, kept_next_by, next_by, unjudged_printed, was_done}
 use Rattle.kmipa_segments.proofs.chaining.chain_check.Goals as goal
 
 pub returns-in-Ok-clause-prints : goal.returns-in-Ok-clause-prints
@@ -31,3 +31,9 @@ returns-in-Ok-clause-goes_on g c = λ done.
       went.1,
       went.2,
     )
+
+pub returns-in-Ok-clause-kept : goal.returns-in-Ok-clause-kept
+returns-in-Ok-clause-kept g c = λ done.
+    let judged = was_done c.args.name.now _ c.in-Ok.status _ _ c.append_named.ensures.named done in
+    let went = c.check_next.ensures.goes_on cc in
+    kept_next_by c.args.chain.now c.check_next.new.self c.args.name.now (came_of c.check_next.new.transcript) (came_of c.check_next.new.witness) went.0

@@ -3,7 +3,7 @@ use Rattle.kmipa_ttlv.specs.Input.{came_of}
 use Rattle.kmipa_runs.specs.declared.status.Status.{Status}
 use Rattle.kmipa_segments.specs.Chains.{TellsSearched}
 use Rattle.kmipa_segments.specs.declared.segment_search.FoundSegment.{FoundSegment}
-use Rattle.kmipa_segments.proofs.ChainingLemmas.{judged_printed, next_somehow, unjudged_printed, was_done}
+use Rattle.kmipa_segments.proofs.ChainingLemmas.{judged_printed, kept_next_somehow, next_somehow, unjudged_printed, was_done}
 use Rattle.kmipa_segments.proofs.chaining.chain_search.Goals as goal
 
 pub returns-in-Ok-clause-prints : goal.returns-in-Ok-clause-prints
@@ -30,3 +30,9 @@ returns-in-Ok-clause-goes_on g c = λ done.
       next_somehow c.args.chain.now c.search_next.new.self c.args.name.now (came_of c.search_next.new.transcript) went.0,
       went.1,
     )
+
+pub returns-in-Ok-clause-kept : goal.returns-in-Ok-clause-kept
+returns-in-Ok-clause-kept g c = λ done.
+    let judged = was_done c.args.name.now _ c.in-Ok.status _ _ c.append_named.ensures.named done in
+    let went = c.search_next.ensures.goes_on cc in
+    kept_next_somehow c.args.chain.now c.search_next.new.self c.args.name.now (came_of c.search_next.new.transcript) went.0

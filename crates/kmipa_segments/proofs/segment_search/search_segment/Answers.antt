@@ -1,7 +1,7 @@
 use Rattle.std.proofs.Common.{sym, subst, Ok}
 use Rattle.kmipa_record.specs.Declarations.{declaration_of}
 use Rattle.kmipa_record.specs.Transcripts.{transcript_of}
-use Rattle.kmipa_search.specs.declared.found.Found.TheVariants.{Yes, GaveUp, Refuted}
+use Rattle.kmipa_search.specs.declared.found.Found.TheVariants.{Yes, GaveUp, Refuted, OutOfTime}
 use Rattle.kmipa_segments.specs.SegmentSearches.{SearchesSegment}
 use Rattle.kmipa_segments.specs.declared.segment_search.FoundSegment.{FoundSegment}
 use Rattle.kmipa_segments.proofs.SegmentSearchLemmas.{found_so, gives_up, refutes}
@@ -12,19 +12,19 @@ returns-in-Yes g c = λ r.
     let marks = transcript_of c.args.transcript.now in
     let declared = declaration_of c.args.declaration.now in
     let searched = c.in-Ok.ensures r in
-    c.go_on.ensures c.args.budget c.args.forced r searched.0
-    (found_so marks declared c.args.budget c.in-Ok.searched.found (Yes c.in-Yes.witness c.in-Yes.count) c.in-Yes.is searched.1)
+    c.go_on.ensures (g.W.Watch.seconds c.args.watch.now) c.args.budget c.args.forced r searched.0
+    (found_so marks declared (g.W.Watch.seconds c.args.watch.now) c.args.budget c.in-Ok.searched.found (Yes c.in-Yes.witness c.in-Yes.count) c.in-Yes.is searched.1)
 
 pub returns-in-GaveUp : goal.returns-in-GaveUp
 returns-in-GaveUp g c = λ r.
     let marks = transcript_of c.args.transcript.now in
     let declared = declaration_of c.args.declaration.now in
     let searched = c.in-Ok.ensures r in
-    let P : FoundSegment → Type 0 = λ s. SearchesSegment marks declared c.args.since c.args.budget c.args.forced (Ok s) in
+    let P : FoundSegment → Type 0 = λ s. SearchesSegment marks declared c.args.since (g.W.Watch.seconds c.args.watch.now) c.args.budget c.args.forced (Ok s) in
     subst P (sym c.gave_up.ensures) (
       searched.0,
-      gives_up marks declared c.args.since c.in-GaveUp.count c.args.budget r
-          (found_so marks declared c.args.budget c.in-Ok.searched.found (GaveUp c.in-GaveUp.count) c.in-GaveUp.is searched.1),
+      gives_up marks declared c.args.since c.in-GaveUp.count (g.W.Watch.seconds c.args.watch.now) c.args.budget r
+          (found_so marks declared (g.W.Watch.seconds c.args.watch.now) c.args.budget c.in-Ok.searched.found (GaveUp c.in-GaveUp.count) c.in-GaveUp.is searched.1),
     )
 
 pub returns-in-Refuted : goal.returns-in-Refuted
@@ -33,6 +33,15 @@ returns-in-Refuted g c = λ r.
     let declared = declaration_of c.args.declaration.now in
     let searched = c.in-Ok.ensures r in (
       searched.0,
-      refutes marks declared c.args.since c.in-Refuted.count c.args.budget c.in-Refuted.object
-          (found_so marks declared c.args.budget c.in-Ok.searched.found (Refuted c.in-Refuted.count c.in-Refuted.object) c.in-Refuted.is searched.1),
+      refutes marks declared c.args.since c.in-Refuted.count (g.W.Watch.seconds c.args.watch.now) c.args.budget c.in-Refuted.object
+          (found_so marks declared (g.W.Watch.seconds c.args.watch.now) c.args.budget c.in-Ok.searched.found (Refuted c.in-Refuted.count c.in-Refuted.object) c.in-Refuted.is searched.1),
+    )
+
+pub returns-in-OutOfTime : goal.returns-in-OutOfTime
+returns-in-OutOfTime g c = λ r.
+    let marks = transcript_of c.args.transcript.now in
+    let declared = declaration_of c.args.declaration.now in
+    let searched = c.in-Ok.ensures r in (
+      searched.0,
+      found_so marks declared (g.W.Watch.seconds c.args.watch.now) c.args.budget c.in-Ok.searched.found (OutOfTime c.in-OutOfTime.count c.in-OutOfTime.after) c.in-OutOfTime.is searched.1,
     )

@@ -31,7 +31,8 @@ returns-in-Ok-clause-goes_on g c = λ done.
     let t = c.check_next_inputs.new.transcript in
     let w = c.check_next_inputs.new.witness in
     let checked = c.in-Ok.ensures.checks (came_of t) (came_of w) (itself t) (itself w) in (
-      goes_on_by c.args.self.now c.check_next_inputs.new.chain.links c.args.name.now c.in-Ok.segment (came_of t) (came_of w) checked c.take_checked.new.self (c.take_checked.ensures.taken cc)
+      goes_on_by c.args.self.now c.check_next_inputs.new.chain.links c.args.name.now c.in-Ok.segment (came_of t) (came_of w) checked c.take_checked.new.self (c.take_checked.ensures.taken cc).0
+          (c.take_checked.ensures.taken cc).1
           c.take_checked.ensures.links,
       c.in-Ok.ensures.ended.0,
       c.in-Ok.ensures.ended.1,
