@@ -1,5 +1,6 @@
 pub mod Checks
 pub mod Jobs
+pub mod Keeping
 pub mod Printing
 pub mod Sealing
 pub mod Searches

@@ -31,37 +31,37 @@ MakesNothing said lines made = IsSilent said lines × (made ≡ [])
 abbrev pub FindsWhenDone : {R : Type 0} → Input R → Input R → Status → List ℕ → Type 0
 FindsWhenDone t d said made = said ≡ status.Done → AreAccepted (came_of t) (came_of d) made × IsTrue (is_ended t) × IsTrue (is_ended d)
 
--- Its lines alone, which tell what a search answers of whatever the files may be, and a witness; or memory ran out.
-pub record SearchesInLines {R : Type 0} (words : SearchWords) (t d : Input R) (said : Status) (lines made : List ℕ) : Type 0 where
+-- Of a search that ends after so many seconds, or in its own time, where these are 0: its lines alone, which tell what a search answers of whatever the files may be, and a witness; or memory ran out.
+pub record SearchesInLines {R : Type 0} (seconds : ℕ) (words : SearchWords) (t d : Input R) (said : Status) (lines made : List ℕ) : Type 0 where
   pub prints : (outcome : Result Searched AuditFault)
-      × ((a b : List ℕ) → IsFileOf a t → IsFileOf b d → SearchesFiles a b (is_failed t) (is_failed d) words.budget words.forced outcome)
+      × ((a b : List ℕ) → IsFileOf a t → IsFileOf b d → SearchesFiles a b (is_failed t) (is_failed d) seconds words.budget words.forced outcome)
       × (PrintsSearch outcome said lines made ⊎ MakesNothing said lines made)
   pub accepts : FindsWhenDone t d said made
 
 -- Behind those of a giving up stands what it means.
-pub record SearchesExplained {R : Type 0} (words : SearchWords) (t d : Input R) (said : Status) (lines made : List ℕ) : Type 0 where
+pub record SearchesExplained {R : Type 0} (seconds : ℕ) (words : SearchWords) (t d : Input R) (said : Status) (lines made : List ℕ) : Type 0 where
   pub prints : (outcome : Result Judged FaultTold)
-      × ((a b : List ℕ) → IsFileOf a t → IsFileOf b d → DecidesFiles a b (is_failed t) (is_failed d) words.budget words.forced outcome)
+      × ((a b : List ℕ) → IsFileOf a t → IsFileOf b d → DecidesFiles a b (is_failed t) (is_failed d) seconds words.budget words.forced outcome)
       × (PrintsGivingUp outcome said lines made ⊎ MakesNothing said lines made)
   pub accepts : FindsWhenDone t d said made
 
 -- One object in place of the lines, which has that too; of a torn transcript so many bytes are its own.
-pub record SearchesInJson {R : Type 0} (words : SearchWords) (torn : Option ℕ) (t d : Input R) (said : Status) (lines made : List ℕ) : Type 0 where
-  pub prints : ((outcome : Result Judged FaultTold) × DecidesInputs t d words.budget words.forced outcome × PrintsJsonSearch torn t d outcome said lines made)
+pub record SearchesInJson {R : Type 0} (seconds : ℕ) (words : SearchWords) (torn : Option ℕ) (t d : Input R) (said : Status) (lines made : List ℕ) : Type 0 where
+  pub prints : ((outcome : Result Judged FaultTold) × DecidesInputs t d seconds words.budget words.forced outcome × PrintsJsonSearch torn t d outcome said lines made)
       ⊎ MakesNothing said lines made
   pub accepts : FindsWhenDone t d said made
 
 -- what a search of whole files says in this form, and makes
-abbrev pub Searches : {R : Type 0} → Form → SearchWords → Option ℕ → Input R → Input R → Status → List ℕ → List ℕ → Type 0
-Searches form.Lines words torn t d said lines made = SearchesInLines words t d said lines made
-Searches form.Explained words torn t d said lines made = SearchesExplained words t d said lines made
-Searches form.Json words torn t d said lines made = SearchesInJson words torn t d said lines made
-Searches form.ExplainedJson words torn t d said lines made = SearchesInJson words torn t d said lines made
+abbrev pub Searches : {R : Type 0} → ℕ → Form → SearchWords → Option ℕ → Input R → Input R → Status → List ℕ → List ℕ → Type 0
+Searches seconds form.Lines words torn t d said lines made = SearchesInLines seconds words t d said lines made
+Searches seconds form.Explained words torn t d said lines made = SearchesExplained seconds words t d said lines made
+Searches seconds form.Json words torn t d said lines made = SearchesInJson seconds words torn t d said lines made
+Searches seconds form.ExplainedJson words torn t d said lines made = SearchesInJson seconds words torn t d said lines made
 
 -- What a search of a segment says from a moment on: it makes a witness, and what it leaves where that is asked for.
-pub record SearchesInSegment {R : Type 0} (words : SearchWords) (leaves : Bool) (since : Option ℤ) (t d : Input R) (said : Status) (lines made left : List ℕ) : Type 0 where
+pub record SearchesInSegment {R : Type 0} (seconds : ℕ) (words : SearchWords) (leaves : Bool) (since : Option ℤ) (t d : Input R) (said : Status) (lines made left : List ℕ) : Type 0 where
   pub prints : (outcome : Result FoundSegment AuditFault)
-      × ((a b : List ℕ) → IsFileOf a t → IsFileOf b d → SearchesSince a b (is_failed t) (is_failed d) since words.budget words.forced outcome)
+      × ((a b : List ℕ) → IsFileOf a t → IsFileOf b d → SearchesSince a b (is_failed t) (is_failed d) since seconds words.budget words.forced outcome)
       × (PrintsSegmentSearch leaves outcome said lines made left ⊎ (IsSilent said lines × (made ≡ []) × (left ≡ [])))
   -- status 0 is answered only where the bytes that came are accepted from the moment on with the witness that is made, and what they lead to
   -- is made where it is asked for

@@ -89,7 +89,7 @@ module _ {F M E : Type 0} (made : M → List ℕ × List ℕ) (lacked : E → Bo
   abbrev pub HasSearched : SearchFiles → Bool → Form → SearchWords → Option (List ℕ) → Did F M E → Status → List ℕ → Type 0
   HasSearched files torn form words expected (did.Searched ft fd file) said lines = (name_of ft ≡ files.transcript.now) × IsOpenedAs torn ft × (name_of fd ≡ files.declaration.now)
       × ((bytes : List ℕ)
-      × SaysOf (voice_of form) expected ft (λ ran told. Searches form words (own_length (torn_of ft)) (input_of ft) (input_of fd) ran told bytes) said lines
+      × SaysOf (voice_of form) expected ft (λ ran told. Searches words.seconds form words (own_length (torn_of ft)) (input_of ft) (input_of fd) ran told bytes) said lines
       × IsMade made files.out.now bytes said file)
   HasSearched files torn form words expected other said lines = ⊥
 
@@ -99,7 +99,7 @@ module _ {F M E : Type 0} (made : M → List ℕ × List ℕ) (lacked : E → Bo
       × (name_of fd ≡ files.declaration.now)
       × ((since : Option ℤ) × IsSince segment.not_before since × ((bytes more : List ℕ)
       × SaysOf voice.Lines expected ft
-      (λ ran told. SearchesInSegment words (is_some segment.leaves) since (input_of ft) (input_of fd) ran told bytes more) said lines
+      (λ ran told. SearchesInSegment words.seconds words (is_some segment.leaves) since (input_of ft) (input_of fd) ran told bytes more) said lines
       × IsMade made files.out.now bytes said file × IsMadeAsAsked made segment.leaves more said left))
   HasSearchedSegment files torn words segment expected other said lines = ⊥
 
@@ -157,6 +157,6 @@ module _ {F M E : Type 0} (made : M → List ℕ × List ℕ) (lacked : E → Bo
   abbrev pub RunsJob : Job → Did F M E → List ℕ → List ℕ → Bool → Status → Type 0
   RunsJob (Check files words) done before after failed left = RunsCheck files words done before after failed left
   RunsJob (Search files search words) done before after failed left = RunsSearch files search words done before after failed left
-  RunsJob (Chain folder budget quiet leaves) done before after failed left = Unit {0}
+  RunsJob (Chain folder budget seconds quiet leaves witnesses) done before after failed left = Unit {0}
   RunsJob (Show file options) done before after failed left = RunsShow file.now options done before after failed left
   RunsJob (Write hex out) done before after failed left = RunsWrite hex.now out.now done before after failed left

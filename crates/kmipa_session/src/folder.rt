@@ -30,4 +30,6 @@ pub struct FolderSegment {
     pub witness: Option<String>,
     /// What the server was asked for ahead of it, and behind the segment before it.
     pub asked: Vec<AskedFor>,
+    /// The path of the file that its witness is written to, where that is asked for.
+    pub kept: Option<String>,
 }

@@ -37,6 +37,8 @@ impl SegmentWords<'_> {
 pub struct SearchWords {
     /// The most steps that are made.
     pub budget: u64,
+    /// The seconds after which it ends; 0 where it has all the time that it takes.
+    pub seconds: u64,
     /// Tells first whether the transcript leaves no choice.
     pub forced: bool,
     /// Takes calls without an end mark too, and batches without order in other orders than by place.
@@ -98,10 +100,14 @@ pub enum Job<'a> {
         folder: &'a str,
         /// The most steps that are made for each segment without a witness.
         budget: u64,
+        /// The seconds after which the whole ends; 0 where it has all the time that it takes.
+        seconds: u64,
         /// Tells nothing on standard error while it searches.
         quiet: bool,
         /// The declaration that is written of what the whole leaves.
         leaves: Option<&'a str>,
+        /// The folder that the witness of each segment is written to.
+        witnesses: Option<&'a str>,
     },
     /// The items of a file as text.
     Show {

@@ -29,7 +29,7 @@ pub struct Named<'n, R> {
 }
 
 impl<'n, R: Read> Named<'n, R> {
-    ghost use Rattle.std.specs.Prelude.{◌≡◌, ◌⊎◌, ℕ, List, [], IsTrue, IfErr, IfOk, OnErr, OnOk, Result, Some, None};
+    ghost use Rattle.std.specs.Prelude.{◌≡◌, ◌≢◌, ◌⊎◌, ℕ, List, [], IsTrue, IfErr, IfOk, OnErr, OnOk, Result, Some, None};
     ghost use Rattle.std.specs.Io.{StartsWith, appended_bytes};
     ghost use Rattle.kmipa_ttlv.specs.Input.{came_of, is_ended, is_failed, IsFileOf};
     ghost use Rattle.kmipa_runs.specs.Inputs.{Writes};
@@ -40,7 +40,7 @@ impl<'n, R: Read> Named<'n, R> {
     ghost use Rattle.kmipa_runs.specs.Lines.{PrintsFault};
     ghost use Rattle.kmipa_runs.specs.Statuses.{IsSilent};
     ghost use Rattle.kmipa_runs.specs.declared.status.Status.{Status};
-    ghost use Rattle.kmipa_segments.specs.Chaining.{IsChain, IsNextOf};
+    ghost use Rattle.kmipa_segments.specs.Chaining.{IsChain, IsKeptNext, IsNextOf};
     ghost use Rattle.kmipa_segments.specs.Chains.{ChecksNext, IsNamed, PrintsJudged, SearchesNext, TellsChecked, TellsSearched};
     ghost use Rattle.kmipa_segments.specs.Comparing.{ComparesFile, Fits, PrintsCompared};
     ghost use Rattle.kmipa_segments.specs.Linking.{LinksSo};
@@ -163,7 +163,7 @@ impl<'n, R: Read> Named<'n, R> {
     ) -> (Ran, Vec<u8>)
         requires transcript { came_of (input_of transcript.old) ≡ [] }
         requires declaration { came_of (input_of declaration.old) ≡ [] }
-        ensures searches { Searches form words (own_length (torn_of transcript.new)) (input_of transcript.new)
+        ensures searches { Searches (W.seconds watch.old) form words (own_length (torn_of transcript.new)) (input_of transcript.new)
             (input_of declaration.new) result.0.status result.0.lines.items result.1.items }
         ensures known { KnowsTold (torn_of transcript.new) (came_of (input_of transcript.new)) result.0.status
             result.0.head }
@@ -196,7 +196,7 @@ impl<'n, R: Read> Named<'n, R> {
     ) -> (Ran, Vec<u8>, Vec<u8>)
         requires transcript { came_of (input_of transcript.old) ≡ [] }
         requires declaration { came_of (input_of declaration.old) ≡ [] }
-        ensures searches { SearchesInSegment words leaves since (input_of transcript.new) (input_of declaration.new)
+        ensures searches { SearchesInSegment (W.seconds watch.old) words leaves since (input_of transcript.new) (input_of declaration.new)
             result.0.status result.0.lines.items result.1.items result.2.items }
         ensures known { KnowsTold (torn_of transcript.new) (came_of (input_of transcript.new)) result.0.status
             result.0.head }
@@ -303,6 +303,9 @@ impl<'n, R: Read> Named<'n, R> {
               transcript = came_of (input_of transcript.new);
               witness = Some (came_of (input_of witness.new));
             }) × IsTrue (is_ended (input_of transcript.new)) × IsTrue (is_ended (input_of witness.new)) }
+        ensures kept { result ≡ Status.Done
+            → IsKeptNext chain.old chain.new name.now (came_of (input_of transcript.new)) }
+        ensures let_go { result ≢ Status.Done → (result ≡ Status.Failed) ⊎ (chain.new.witness ≡ None) }
         ensures declared { AreDeclared (declaration_of chain.new.held.declaration) }
         ensures appends { StartsWith lines.new.items lines.old.items }
     {
@@ -331,12 +334,15 @@ impl<'n, R: Read> Named<'n, R> {
         requires fresh { came_of (input_of self.old) ≡ [] }
         ensures prints { (outcome : Result FoundSegment Unjudged)
             × ((t : List ℕ) → IsFileOf t (input_of self.new)
-            → SearchesNext chain.old chain.new.links name.now t (is_failed (input_of self.new)) budget outcome)
+            → SearchesNext chain.old chain.new.links name.now t (is_failed (input_of self.new))
+            (W.seconds watch.old) budget outcome)
             × (PrintsJudged TellsSearched name.now outcome result (appended_bytes lines.old.items lines.new.items)
             ⊎ IsSilent result (appended_bytes lines.old.items lines.new.items)) }
         ensures goes_on { result ≡ Status.Done → IsNextOf chain.old chain.new
             (record { name = name.now; transcript = came_of (input_of self.new); witness = None })
             × IsTrue (is_ended (input_of self.new)) }
+        ensures kept { result ≡ Status.Done → IsKeptNext chain.old chain.new name.now (came_of (input_of self.new)) }
+        ensures let_go { result ≢ Status.Done → (result ≡ Status.Failed) ⊎ (chain.new.witness ≡ None) }
         ensures declared { AreDeclared (declaration_of chain.new.held.declaration) }
         ensures appends { StartsWith lines.new.items lines.old.items }
     {

@@ -155,7 +155,7 @@ pub fn search_lines<R: Read, W: Watch>(
 ) -> (Ran, Vec<u8>)
     requires transcript { came_of transcript.old ≡ [] }
     requires declaration { came_of declaration.old ≡ [] }
-    ensures told { SearchesInLines words transcript.new declaration.new result.0.status result.0.lines.items result.1.items }
+    ensures told { SearchesInLines (W.seconds watch.old) words transcript.new declaration.new result.0.status result.0.lines.items result.1.items }
     ensures known { KnowsSeals (came_of transcript.new) result.0.status result.0.head }
 {
     let mut lines = Vec::new(alloc);
@@ -189,7 +189,7 @@ pub fn search_explained<R: Read, W: Watch>(
 ) -> (Ran, Vec<u8>)
     requires transcript { came_of transcript.old ≡ [] }
     requires declaration { came_of declaration.old ≡ [] }
-    ensures told { SearchesExplained words transcript.new declaration.new result.0.status result.0.lines.items
+    ensures told { SearchesExplained (W.seconds watch.old) words transcript.new declaration.new result.0.status result.0.lines.items
         result.1.items }
     ensures known { KnowsSeals (came_of transcript.new) result.0.status result.0.head }
 {
@@ -225,7 +225,8 @@ pub fn search_object<R: Read, W: Watch>(
 ) -> (Ran, Vec<u8>)
     requires transcript { came_of transcript.old ≡ [] }
     requires declaration { came_of declaration.old ≡ [] }
-    ensures told { SearchesInJson words torn transcript.new declaration.new result.0.status result.0.lines.items result.1.items }
+    ensures told { SearchesInJson (W.seconds watch.old) words torn transcript.new declaration.new
+        result.0.status result.0.lines.items result.1.items }
     ensures known { KnowsSeals (came_of transcript.new) result.0.status result.0.head }
 {
     let mut lines = Vec::new(alloc);
@@ -263,7 +264,7 @@ pub fn search_left<R: Read, W: Watch>(
 ) -> (Ran, Vec<u8>, Vec<u8>)
     requires transcript { came_of transcript.old ≡ [] }
     requires declaration { came_of declaration.old ≡ [] }
-    ensures told { SearchesInSegment words leaves since transcript.new declaration.new
+    ensures told { SearchesInSegment (W.seconds watch.old) words leaves since transcript.new declaration.new
         result.0.status result.0.lines.items result.1.items result.2.items }
     ensures known { KnowsSeals (came_of transcript.new) result.0.status result.0.head }
 {

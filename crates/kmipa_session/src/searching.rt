@@ -25,6 +25,8 @@ struct FindWords<'a> {
     segment: SegmentWords<'a>,
     expected: Option<[u8; 32]>,
     torn: bool,
+    /// Tells on standard error how far a long search got.
+    watched: bool,
 }
 
 /// Looks for a witness of two files as the options ask for it, makes the third file of it, and prints what is said.
@@ -45,15 +47,15 @@ pub fn run_search<'n, W: World, O: Out>(
     };
     match expected_of(words.seals.head) {
         Ok(expected) => {
-            let mut watch = world.watch(search.budget, watched && !search.quiet);
             let words = FindWords {
                 files,
                 search,
                 segment: words.segment,
                 expected,
                 torn: words.seals.torn,
+                watched: watched && !search.quiet,
             };
-            run_asked_search(alloc, world, out, asked, words, &mut watch)
+            run_asked_search(alloc, world, out, asked, words)
         }
         Err(NoSeal) => tell_no_seal(world, out),
     }
@@ -65,7 +67,6 @@ fn run_asked_search<'n, W: World, O: Out>(
     out: O,
     asked: Asked,
     words: FindWords<'n>,
-    watch: &mut W::Watcher,
 ) -> Session<'n, O, W::File, W::Made, W::Refusal>
     ensures { RunsAskedSearch W.made W.lacked words.entry.files words.entry.torn words.entry.search
         words.entry.segment
@@ -73,8 +74,8 @@ fn run_asked_search<'n, W: World, O: Out>(
         result.did (O.printed out) (O.printed result.out) (O.has_failed result.out) result.status }
 {
     match asked {
-        Asked::Files(form) => run_whole_search(alloc, world, out, form, words, watch),
-        Asked::Segment => run_segment_search(alloc, world, out, words, watch),
+        Asked::Files(form) => run_whole_search(alloc, world, out, form, words),
+        Asked::Segment => run_segment_search(alloc, world, out, words),
     }
 }
 
@@ -85,13 +86,12 @@ fn run_whole_search<'n, W: World, O: Out>(
     out: O,
     form: Form,
     words: FindWords<'n>,
-    watch: &mut W::Watcher,
 ) -> Session<'n, O, W::File, W::Made, W::Refusal>
     ensures { TellsWhat W.made W.lacked (voice_of form) (HasSearched W.made W.lacked words.entry.files
         words.entry.torn form words.entry.search words.entry.expected)
         result.did (O.printed out) (O.printed result.out) (O.has_failed result.out) result.status }
 {
-    let done = search_files(alloc, world, form, words, watch);
+    let done = search_files(alloc, world, form, words);
     tell_done(world, out, voice_of(form), done)
 }
 
@@ -101,14 +101,13 @@ fn run_segment_search<'n, W: World, O: Out>(
     world: &W,
     out: O,
     words: FindWords<'n>,
-    watch: &mut W::Watcher,
 ) -> Session<'n, O, W::File, W::Made, W::Refusal>
     ensures { RunsAskedSearch W.made W.lacked words.entry.files words.entry.torn words.entry.search
         words.entry.segment
         words.entry.expected Segment
         result.did (O.printed out) (O.printed result.out) (O.has_failed result.out) result.status }
 {
-    let done = search_segment(alloc, world, words, watch);
+    let done = search_segment(alloc, world, words);
     tell_done(world, out, Voice::Lines, done)
 }
 
@@ -118,7 +117,6 @@ fn search_files<'n, W: World>(
     world: &W,
     form: Form,
     words: FindWords<'n>,
-    watch: &mut W::Watcher,
 ) -> Result<(Said, Did<'n, W::File, W::Made, W::Refusal>), W::Refusal>
     ensures { IfOk result (λ done.
         HasSearched W.made W.lacked words.entry.files words.entry.torn form words.entry.search
@@ -135,13 +133,14 @@ fn search_files<'n, W: World>(
     let mut transcript = open_transcript(world, files.transcript, words.torn)?;
     let mut declaration = world.open(files.declaration)?;
     world.test_output(witness)?;
+    let mut watch = watch_of(world, words);
     let (ran, made) = Named::search(
         alloc,
         form,
         words.search,
         &mut transcript,
         &mut declaration,
-        watch,
+        &mut watch,
     );
     if ran.status == Status::Refused {
         world.hint_kind(&names, &ran.lines);
@@ -155,6 +154,13 @@ fn search_files<'n, W: World>(
     );
     let file = make_when_done(world, witness, &made, said.status)?;
     Ok((said, Did::Searched(transcript, declaration, file)))
+}
+
+/// Who watches the search.
+fn watch_of<W: World>(world: &W, words: FindWords<'_>) -> W::Watcher
+    ensures { W.Watcher.seconds result ≡ words.entry.search.seconds }
+{
+    world.watch(words.search.budget, words.search.seconds, words.watched)
 }
 
 /// Makes a file where the status is `Done`.
@@ -177,7 +183,6 @@ fn search_segment<'n, W: World>(
     alloc: Global,
     world: &W,
     words: FindWords<'n>,
-    watch: &mut W::Watcher,
 ) -> Result<(Said, Did<'n, W::File, W::Made, W::Refusal>), W::Refusal>
     ensures { IfOk result (λ done.
         (HasSearchedSegment W.made W.lacked words.entry.files words.entry.torn words.entry.search
@@ -202,6 +207,7 @@ fn search_segment<'n, W: World>(
     let mut declaration = world.open(files.declaration)?;
     world.test_output(witness)?;
     test_leaves(world, leaves)?;
+    let mut watch = watch_of(world, words);
     let (ran, made, left) = Named::search_segment(
         alloc,
         words.search,
@@ -209,7 +215,7 @@ fn search_segment<'n, W: World>(
         &mut declaration,
         since,
         leaves.is_some(),
-        watch,
+        &mut watch,
     );
     if ran.status == Status::Refused {
         world.hint_kind(&names, &ran.lines);

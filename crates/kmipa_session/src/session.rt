@@ -34,13 +34,17 @@ pub fn run_job<'n, W: World, O: Out>(
         Job::Chain {
             folder,
             budget,
+            seconds,
             quiet,
             leaves,
+            witnesses,
         } => {
             let words = ChainWords {
                 budget,
+                seconds,
                 watched: watched && !quiet,
                 leaves,
+                witnesses,
             };
             run_chain(alloc, world, out, folder, words)
         }

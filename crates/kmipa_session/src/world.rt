@@ -81,8 +81,9 @@ pub trait World {
         ensures one { IfOk result (λ done. made done.0 ≡ (one.entry.name.now, one.entry.bytes.now)) }
         ensures other { IfOk result (λ done. made done.1 ≡ (other.entry.name.now, other.entry.bytes.now)) };
 
-    /// Lists the segments of a folder. What is wrong with it is told on standard error.
-    fn read_folder(&self, name: &str) -> Result<Folder, Self::Refusal>;
+    /// Lists the segments of a folder, each with the file that its witness is written to, where a folder is named for the witnesses. What is wrong
+    /// with either is told on standard error.
+    fn read_folder(&self, name: &str, witnesses: Option<&str>) -> Result<Folder, Self::Refusal>;
 
     /// Whether it was refused for want of memory, and not for a device.
     fn lacked_memory(&self, refusal: &Self::Refusal) -> bool
@@ -94,8 +95,13 @@ pub trait World {
     /// Tells on standard error that a word is no moment.
     fn tell_no_moment(&self, word: &str);
 
-    /// Who watches a search with this budget: it tells on standard error how far the search got, where that is wanted.
-    fn watch(&self, budget: u64, wanted: bool) -> Self::Watcher;
+    /// Who watches a search with this budget, which ends so many seconds after the world began, or in its own time, where these are 0: it tells on
+    /// standard error how far the search got, where that is wanted.
+    fn watch(&self, budget: u64, seconds: u64, wanted: bool) -> Self::Watcher
+        ensures { Self.Watcher.seconds result ≡ seconds };
+
+    /// Whether so many seconds went by since the world began. Of 0 that is never said.
+    fn is_over(&self, seconds: u64) -> bool;
 
     /// Where the lines say that a file's header is refused, and it is of another kind, tells so on standard error.
     fn hint_kind(&self, names: &[&str], lines: &[u8])

@@ -18,7 +18,8 @@ returns g c =
     let said = c.say_seals-said.result in
     let leaves = c.args.words.segment.leaves in
     let asked : c.is_some.result ≡ is_some leaves = search rules in
-    let P : Bool → Type 0 = λ b. SearchesInSegment c.args.words.search b c.in-Ok.since (input_of run.new.transcript) (input_of run.new.declaration) ran.status ran.lines.items bytes more in
+    let P : Bool → Type 0 = λ b. SearchesInSegment c.args.words.search.seconds c.args.words.search b c.in-Ok.since (input_of run.new.transcript) (input_of run.new.declaration) ran.status ran.lines.items bytes more in
+    let N : ℕ → Type 0 = λ n. SearchesInSegment n c.args.words.search c.is_some.result c.in-Ok.since (input_of run.new.transcript) (input_of run.new.declaration) ran.status ran.lines.items bytes more in
     let Q : List ℕ → Type 0 = λ b. IsMade made c.args.words.files.out.now b said.status c.in_ok-file.file in
     let S : List ℕ → Type 0 = λ b. IsMadeAsAsked made leaves b said.status c.in_ok-file.more in
     let T : Option Torn → Type 0 = λ t. SaysSeals Lines c.args.words.expected t ran.head ran.status ran.lines.items said.status said.lines.items in
@@ -34,7 +35,7 @@ returns g c =
         (
           bytes,
           more,
-          (ran, subst P asked run.ensures.searches, run.ensures.known, subst T c.torn.ensures c.say_seals-said.ensures),
+          (ran, subst P asked (subst N c.watch_of-watch.ensures run.ensures.searches), run.ensures.known, subst T c.torn.ensures c.say_seals-said.ensures),
           subst Q same c.in_ok-file.ensures.witness,
           subst S same_more c.in_ok-file.ensures.left,
         ),
