@@ -52,7 +52,7 @@ check_found f (Check files words) (Some found) n e is =
     let P : List Row → Type 0 = λ r. IsCheck (Check files words) r in
     (sym name, subst P rows is)
 check_found f (Search files search words) o n e is = absurd is
-check_found f (Chain folder budget quiet leaves) o n e is = absurd is
+check_found f (Chain folder budget seconds quiet leaves witnesses) o n e is = absurd is
 check_found f (Show file options) o n e is = absurd is
 check_found f (Write hex out) o n e is = absurd is
 
@@ -88,7 +88,7 @@ search_found f (Search files search words) (Some found) n e is =
     let P : List Row → Type 0 = λ r. IsSearch (Search files search words) r in
     (sym name, subst P rows is)
 search_found f (Check files words) o n e is = absurd is
-search_found f (Chain folder budget quiet leaves) o n e is = absurd is
+search_found f (Chain folder budget seconds quiet leaves witnesses) o n e is = absurd is
 search_found f (Show file options) o n e is = absurd is
 search_found f (Write hex out) o n e is = absurd is
 
@@ -99,11 +99,11 @@ search_found_some f (Some job) o n e is = search_found f job o n e is
 
 pub chain_found : (f : Found) (job : Job) (o : Option (Text × List Row))
     → Some (codes "chain") ≡ option_map (λ p. p.0) o → Some (rows_of f) ≡ option_map (λ p. p.1) o → IsChain job (rows_of f) → IsJob job o
-chain_found f (Chain folder budget quiet leaves) None n e is = cc
-chain_found f (Chain folder budget quiet leaves) (Some found) n e is =
+chain_found f (Chain folder budget seconds quiet leaves witnesses) None n e is = cc
+chain_found f (Chain folder budget seconds quiet leaves witnesses) (Some found) n e is =
     let name : codes "chain" ≡ found.0 = cc in
     let rows : rows_of f ≡ found.1 = cc in
-    let P : List Row → Type 0 = λ r. IsChain (Chain folder budget quiet leaves) r in
+    let P : List Row → Type 0 = λ r. IsChain (Chain folder budget seconds quiet leaves witnesses) r in
     (sym name, subst P rows is)
 chain_found f (Check files words) o n e is = absurd is
 chain_found f (Search files search words) o n e is = absurd is

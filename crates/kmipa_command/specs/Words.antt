@@ -39,6 +39,15 @@ budget_rule = record (new_rule (codes "budget")) {
   parser = Some (Unsigned 0 1_000_000_000);
 }
 
+-- `--seconds N`, from 0 to 1,000,000,000; 0 where it isn't given
+abbrev pub seconds_rule : Rule
+seconds_rule = record (new_rule (codes "seconds")) {
+  long = Some (codes "seconds");
+  value_names = 1;
+  defaults = codes "0" ∷ [];
+  parser = Some (Unsigned 0 1_000_000_000);
+}
+
 -- `check TRANSCRIPT DECLARATION WITNESS`
 abbrev pub check_files_app : App
 check_files_app = with_rule (with_rule (with_rule (new_app (codes "check")) (file_rule (codes "TRANSCRIPT")))
@@ -61,9 +70,13 @@ abbrev pub search_files_app : App
 search_files_app = with_rule (with_rule (with_rule (new_app (codes "search")) (file_rule (codes "TRANSCRIPT")))
     (file_rule (codes "DECLARATION"))) (file_rule (codes "OUT"))
 
--- and after it `[--budget N] [--forced] [--open] [--quiet]`
+-- and after it `[--budget N] [--seconds N]`
+abbrev pub search_limits_app : App
+search_limits_app = with_rule (with_rule search_files_app budget_rule) seconds_rule
+
+-- and after it `[--forced] [--open] [--quiet]`
 abbrev pub search_steps_app : App
-search_steps_app = with_rule (with_rule (with_rule (with_rule search_files_app budget_rule) (flag_rule (codes "forced"))) (flag_rule (codes "open"))) (flag_rule (codes "quiet"))
+search_steps_app = with_rule (with_rule (with_rule search_limits_app (flag_rule (codes "forced"))) (flag_rule (codes "open"))) (flag_rule (codes "quiet"))
 
 -- and after that `[--explain] [--json]`
 abbrev pub search_texts_app : App
@@ -77,13 +90,17 @@ search_segment_app = with_rule (with_rule search_texts_app (option_rule (codes "
 abbrev pub search_app : App
 search_app = with_rule (with_rule search_segment_app (option_rule (codes "head"))) (flag_rule (codes "torn"))
 
--- `chain DIR [--budget N] [--quiet]`
-abbrev pub chain_steps_app : App
-chain_steps_app = with_rule (with_rule (with_rule (new_app (codes "chain")) (file_rule (codes "DIR"))) budget_rule) (flag_rule (codes "quiet"))
+-- `chain DIR`
+abbrev pub chain_folder_app : App
+chain_folder_app = with_rule (new_app (codes "chain")) (file_rule (codes "DIR"))
 
--- and after that `[--leaves OUT]`
+-- and after it `[--budget N] [--seconds N] [--quiet]`
+abbrev pub chain_steps_app : App
+chain_steps_app = with_rule (with_rule (with_rule chain_folder_app budget_rule) seconds_rule) (flag_rule (codes "quiet"))
+
+-- and after that `[--leaves OUT] [--witnesses FOLDER]`
 abbrev pub chain_app : App
-chain_app = with_rule chain_steps_app (option_rule (codes "leaves"))
+chain_app = with_rule (with_rule chain_steps_app (option_rule (codes "leaves"))) (option_rule (codes "witnesses"))
 
 -- `show FILE [--messages] [--notes]`
 abbrev pub show_app : App
@@ -144,14 +161,14 @@ IsCheck job rows = ⊥
 abbrev pub IsSearch : Job → List Row → Type 0
 IsSearch (Search files search words) rows = (first_of (codes "TRANSCRIPT") rows ≡ Some files.transcript.now)
     × (first_of (codes "DECLARATION") rows ≡ Some files.declaration.now) × (first_of (codes "OUT") rows ≡ Some files.out.now)
-    × IsNumber (codes "budget") rows search.budget × IsFlag (codes "forced") rows search.forced × IsFlag (codes "open") rows search.open
+    × IsNumber (codes "budget") rows search.budget × IsNumber (codes "seconds") rows search.seconds × IsFlag (codes "forced") rows search.forced × IsFlag (codes "open") rows search.open
     × IsFlag (codes "quiet") rows search.quiet × IsAnswer words rows
 IsSearch job rows = ⊥
 
 -- these values are of this chain
 abbrev pub IsChain : Job → List Row → Type 0
-IsChain (Chain folder budget quiet leaves) rows = (first_of (codes "DIR") rows ≡ Some folder.now) × IsNumber (codes "budget") rows budget
-    × IsFlag (codes "quiet") rows quiet × IsText (codes "leaves") rows leaves
+IsChain (Chain folder budget seconds quiet leaves witnesses) rows = (first_of (codes "DIR") rows ≡ Some folder.now) × IsNumber (codes "budget") rows budget × IsNumber (codes "seconds") rows seconds
+    × IsFlag (codes "quiet") rows quiet × IsText (codes "leaves") rows leaves × IsText (codes "witnesses") rows witnesses
 IsChain job rows = ⊥
 
 -- the subcommand with this name and these values is this job
@@ -159,7 +176,7 @@ abbrev pub IsJob : Job → Option (Text × List Row) → Type 0
 IsJob job None = ⊥
 IsJob (Check files words) (Some found) = (found.0 ≡ codes "check") × IsCheck (Check files words) found.1
 IsJob (Search files search words) (Some found) = (found.0 ≡ codes "search") × IsSearch (Search files search words) found.1
-IsJob (Chain folder budget quiet leaves) (Some found) = (found.0 ≡ codes "chain") × IsChain (Chain folder budget quiet leaves) found.1
+IsJob (Chain folder budget seconds quiet leaves witnesses) (Some found) = (found.0 ≡ codes "chain") × IsChain (Chain folder budget seconds quiet leaves witnesses) found.1
 IsJob (Show file options) (Some found) = (found.0 ≡ codes "show") × (first_of (codes "FILE") found.1 ≡ Some file.now)
     × IsFlag (codes "messages") found.1 options.messages × IsFlag (codes "notes") found.1 options.notes
 IsJob (Write hex out) (Some found) = (found.0 ≡ codes "write") × (first_of (codes "HEX") found.1 ≡ Some hex.now) × (first_of (codes "OUT") found.1 ≡ Some out.now)

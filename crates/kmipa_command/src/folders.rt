@@ -71,19 +71,42 @@ fn beside<'a>(name: &str, kind: &str, others: &'a [String], other: &str) -> Opti
         .map(|there| there.as_str())
 }
 
-/// Lists the segments of a folder. What is wrong with it is told on standard error.
+/// Lists the segments of a folder, each with the file that its witness is written to, where a folder is named for the witnesses. What is wrong with
+/// either is told on standard error.
 pub fn read_folder<R: Files + AllocGlobal + Eprint + Clone + Drop>(
     rt: &R,
     folder: &str,
+    witnesses: Option<&str>,
 ) -> io::Result<Folder> {
     let mut names = reported(rt, folder, names_of(rt, folder))?;
     test_names(rt, folder, &names)?;
     test_kinds(rt, folder, &names.transcripts)?;
     test_kinds(rt, folder, &names.declarations)?;
     test_kinds(rt, folder, &names.witnesses)?;
+    if let Some(other) = witnesses {
+        reported(rt, other, test_takes(rt, other))?;
+    }
     names.transcripts.sort_unstable();
     names.declarations.sort_unstable();
-    Ok(folder_of(rt.alloc(), folder, &names)?)
+    Ok(folder_of(rt.alloc(), folder, &names, witnesses)?)
+}
+
+/// Tests whether files may be made in a folder, as far as can be seen.
+fn test_takes<R: Files>(rt: &R, folder: &str) -> io::Result<()> {
+    let there = fs::metadata(rt, folder)?;
+    if !there.is_dir() {
+        return Err(io::Error::new(
+            io::ErrorKind::NotADirectory,
+            "is no folder; name the folder that the witnesses are written to",
+        ));
+    }
+    if there.permissions().readonly() {
+        return Err(io::Error::new(
+            io::ErrorKind::PermissionDenied,
+            "is read-only; name another folder, or make it writable",
+        ));
+    }
+    Ok(())
 }
 
 fn names_of<R: Files + AllocGlobal + Clone + Drop>(rt: &R, folder: &str) -> io::Result<Names> {
@@ -147,14 +170,21 @@ fn test_kinds<R: Files + AllocGlobal + Eprint>(
     Ok(())
 }
 
-fn folder_of(alloc: Global, folder: &str, names: &Names) -> Result<Folder, AllocError> {
+fn folder_of(
+    alloc: Global,
+    folder: &str,
+    names: &Names,
+    witnesses: Option<&str>,
+) -> Result<Folder, AllocError> {
     let declarations = names.declarations.as_slice();
     let mut segments = Vec::new(alloc);
     let mut before = None;
     for name in &names.transcripts {
         let here = Some(name.as_str());
         let asked = asked_between(alloc, folder, declarations, before, here)?;
-        segments.push(segment_of(alloc, folder, name.as_str(), names, asked)?)?;
+        let mut segment = segment_of(alloc, folder, name.as_str(), names, asked)?;
+        segment.kept = kept_in(alloc, witnesses, name.as_str())?;
+        segments.push(segment)?;
         before = here;
     }
     Ok(Folder {
@@ -211,7 +241,21 @@ fn segment_of(
         transcript: path_of(alloc, folder, name)?,
         witness,
         asked,
+        kept: None,
     })
+}
+
+/// The path of the witness of a segment, in the folder for them, where one is named.
+fn kept_in(
+    alloc: Global,
+    witnesses: Option<&str>,
+    transcript: &str,
+) -> Result<Option<String>, AllocError> {
+    let (Some(folder), Some(suffix)) = (witnesses, suffix_of(transcript, TRANSCRIPT)) else {
+        return Ok(None);
+    };
+    let name = format!(in alloc; "{WITNESS}{suffix}{ENDING}")?;
+    Ok(Some(path_of(alloc, folder, name.as_str())?))
 }
 
 fn path_of(alloc: Global, folder: &str, name: &str) -> Result<String, AllocError> {

@@ -8,24 +8,28 @@ ghost use Rattle.kmipa_command.specs.Sessions.{is_memory};
 use crate::files::{hint_digits, hint_kind, open_file, open_torn_file, opened};
 use crate::folders::read_folder;
 use crate::held_file::HeldFile;
-use crate::progress::Progress;
+use crate::progress::{Progress, are_over};
 use crate::replacing::{are_one_output, is_input, replace_both, replace_file, test_output};
 use kmipa_session::{Content, Folder, Named, World};
 use kmipa_ttlv::History;
 use std::io;
 use std::os::fd::AsFd;
 use std::rt::{Clock, Files};
+use std::time::Instant;
 
 /// The runtime.
 #[derive(Drop)]
 pub struct Host<'a, R> {
     rt: &'a R,
+    // When it began, where the clock can be read.
+    began: Option<Instant>,
 }
 
-impl<'a, R> Host<'a, R> {
-    /// The world of this runtime.
+impl<'a, R: Clock> Host<'a, R> {
+    /// The world of this runtime, which begins now.
     pub fn new(rt: &'a R) -> Host<'a, R> {
-        Host { rt }
+        let began = Instant::now(rt).ok();
+        Host { rt, began }
     }
 }
 
@@ -110,8 +114,8 @@ impl<'a, R: Files<File: AsFd> + Clock + AllocGlobal + Eprint + Clone + Drop> Wor
         Ok((made_of(one), made_of(other)))
     }
 
-    fn read_folder(&self, name: &str) -> Result<Folder, io::Error> {
-        read_folder(self.rt, name)
+    fn read_folder(&self, name: &str, witnesses: Option<&str>) -> Result<Folder, io::Error> {
+        read_folder(self.rt, name, witnesses)
     }
 
     fn lacked_memory(&self, refusal: &io::Error) -> bool {
@@ -130,8 +134,15 @@ impl<'a, R: Files<File: AsFd> + Clock + AllocGlobal + Eprint + Clone + Drop> Wor
             .ok();
     }
 
-    fn watch(&self, budget: u64, wanted: bool) -> Progress<'a, R> {
-        Progress::new(self.rt, budget, wanted)
+    fn watch(&self, budget: u64, seconds: u64, wanted: bool) -> Progress<'a, R> {
+        Progress::new(self.rt, self.began, budget, seconds, wanted)
+    }
+
+    fn is_over(&self, seconds: u64) -> bool {
+        match Instant::now(self.rt) {
+            Ok(now) => are_over(self.began, now, seconds),
+            Err(_) => false,
+        }
     }
 
     fn hint_kind(&self, names: &[&str], lines: &[u8]) {

@@ -1,4 +1,6 @@
-//! How far a search got, reported while it goes on.
+//! How far a search got, reported while it goes on, and how long it may go on.
+
+ghost use Rattle.std.specs.Prelude.{◌≡◌};
 
 use kmipa_search::Watch;
 use std::rt::Clock;
@@ -10,11 +12,19 @@ const PACE: u64 = 1024;
 /// How many seconds go by between two lines.
 const PAUSE: u64 = 1;
 
-/// Tells on standard error, once a second, how far a search got.
+/// Tells on standard error, once a second, how far a search got, and ends it once its seconds are over.
 #[derive(Drop)]
 pub struct Progress<'a, R> {
     rt: &'a R,
     budget: u64,
+    // So many seconds the search has; 0 where it has all the time that it takes.
+    seconds: u64,
+    // When these began, where the clock could be read.
+    began: Option<Instant>,
+    // Whether they are over.
+    is_over: bool,
+    // How many steps were reported.
+    steps: u64,
     // The most calls that were taken at once.
     deepest: usize,
     // When a line was reported last, or the search began; none where nothing is reported.
@@ -22,30 +32,48 @@ pub struct Progress<'a, R> {
 }
 
 impl<'a, R: Clock + Eprint> Progress<'a, R> {
-    /// The progress of a search that begins now, with this budget. Where it is not wanted, nothing is reported.
-    pub fn new(rt: &'a R, budget: u64, wanted: bool) -> Progress<'a, R> {
+    /// The progress of a search that begins now, with this budget, and ends so many seconds after this moment, or in its own time, where these are
+    /// 0. Where it is not wanted, nothing is reported.
+    pub fn new(
+        rt: &'a R,
+        began: Option<Instant>,
+        budget: u64,
+        seconds: u64,
+        wanted: bool,
+    ) -> Progress<'a, R>
+        ensures { result.seconds ≡ seconds }
+    {
         let reported = if wanted { Instant::now(rt).ok() } else { None };
         Progress {
             rt,
             budget,
+            seconds,
+            began,
+            is_over: false,
+            steps: 0,
             deepest: 0,
             reported,
         }
     }
 
-    /// Tells how far the search got, where it is time for it. Where standard error can't be written there is nothing
-    /// left to say.
-    fn tell_in_time(&mut self, steps: u64, taken: usize) {
-        let Some(reported) = self.reported else {
-            return;
-        };
+    /// Looks at the clock: whether the seconds are over, and whether it is time to tell how far the search got.
+    fn look(&mut self, steps: u64, taken: usize)
+        ensures { self.new.seconds ≡ self.old.seconds }
+    {
         let Ok(now) = Instant::now(self.rt) else {
             return;
         };
-        if now.duration_since(reported).as_secs() < PAUSE {
-            return;
+        self.is_over = are_over(self.began, now, self.seconds);
+        if let Some(reported) = self.reported {
+            if now.duration_since(reported).as_secs() >= PAUSE {
+                self.reported = Some(now);
+                self.tell(steps, taken);
+            }
         }
-        self.reported = Some(now);
+    }
+
+    /// Tells how far the search got. Where standard error can't be written there is nothing left to say.
+    fn tell(&self, steps: u64, taken: usize) {
         let budget = self.budget;
         let deepest = self.deepest;
         self.rt
@@ -56,15 +84,34 @@ impl<'a, R: Clock + Eprint> Progress<'a, R> {
     }
 }
 
+/// Whether so many seconds went by from the one moment to the other. Of 0 that is never said, and nothing of no moment.
+pub fn are_over(began: Option<Instant>, now: Instant, seconds: u64) -> bool {
+    match began {
+        Some(began) => seconds > 0 && now.duration_since(began).as_secs() >= seconds,
+        None => false,
+    }
+}
+
 impl<'a, R: Clock + Eprint> Watch for Progress<'a, R> {
+    ghost seconds = { λ progress. progress.seconds };
+
     fn step(&mut self, steps: u64, taken: usize) {
         self.deepest = self.deepest.max(taken);
-        if steps % PACE == 0 {
-            self.tell_in_time(steps, taken);
+        if self.steps % PACE == 0 && (self.seconds > 0 || self.reported.is_some()) {
+            self.look(steps, taken);
         }
+        self.steps = self.steps.wrapping_add(1);
     }
 
     fn taken(&mut self, _call: i32) {}
 
     fn given_back(&mut self) {}
+
+    fn over(&self) -> Option<u64> {
+        if self.is_over && self.seconds > 0 {
+            Some(self.seconds)
+        } else {
+            None
+        }
+    }
 }

@@ -18,13 +18,18 @@ const MOST_NAMES: u32 = 1000;
 
 /// Whether an output is one of the inputs too, by its name or as the same plain file by another; then it is told on standard error.
 pub fn is_input<R: Files + Eprint>(rt: &R, output: &str, inputs: &[&str]) -> bool {
-    let is_one = inputs.iter().any(|input| *input == output || are_one_file(rt, input, output));
+    let is_one = inputs.iter().any(|input| *input == output)
+        || is_there(rt, output) && inputs.iter().any(|input| are_one_file(rt, input, output));
     if is_one {
         rt.eprintln(format_args!(
             "kmip_audit: {output}: is an input too, and would be lost; name another file for the output"
         )).ok();
     }
     is_one
+}
+
+fn is_there<R: Files>(rt: &R, name: &str) -> bool {
+    fs::metadata(rt, name).is_ok()
 }
 
 /// Whether two outputs are one file, which is there or would be made; then it is told on standard error.

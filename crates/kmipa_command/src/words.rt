@@ -4,7 +4,7 @@ ghost use Rattle.std.specs.Prelude.{◌≡◌, ◌≢◌, ◌⊎◌, ◌||◌, i
 ghost use Rattle.clap.specs.Words.{app_of, rule_of, rows_of, found_of, kind_of, subcommand_of, subcommand_rows_of, fault_of};
 ghost use Rattle.clap.specs.declared.builder.command.Command.TheViews.{out-Command};
 ghost use Rattle.kmipa_runs.specs.Statuses.{IsSilent};
-ghost use Rattle.kmipa_command.specs.Words.{program_app, check_app, check_files_app, check_segment_app, check_texts_app, search_app, search_files_app, search_segment_app, search_steps_app, search_texts_app, show_app, write_app, chain_app, chain_steps_app, budget_rule, file_rule, flag_rule, option_rule, status_of, IsAnswer, IsChain, IsCheck, IsForm, IsJob, IsSealed, IsSearch, IsSegment, IsTold};
+ghost use Rattle.kmipa_command.specs.Words.{program_app, check_app, check_files_app, check_segment_app, check_texts_app, search_app, search_files_app, search_limits_app, search_segment_app, search_steps_app, search_texts_app, show_app, write_app, chain_app, chain_folder_app, chain_steps_app, budget_rule, seconds_rule, file_rule, flag_rule, option_rule, status_of, IsAnswer, IsChain, IsCheck, IsForm, IsJob, IsSealed, IsSearch, IsSegment, IsTold};
 
 use clap::builder::ValueParser;
 use clap::error::ErrorKind;
@@ -26,6 +26,8 @@ const DIR: &str = "DIR";
 
 const FILE: &str = "FILE";
 
+const FOLDER: &str = "FOLDER";
+
 const HEX: &str = "HEX";
 
 const OUT: &str = "OUT";
@@ -33,6 +35,8 @@ const OUT: &str = "OUT";
 const LEFT: &str = "LEFT";
 
 const BUDGET: &str = "budget";
+
+const SECONDS: &str = "seconds";
 
 const FORCED: &str = "forced";
 
@@ -45,6 +49,8 @@ const JSON: &str = "json";
 const EXPLAIN: &str = "explain";
 
 const LEAVES: &str = "leaves";
+
+const WITNESSES: &str = "witnesses";
 
 const NOT_BEFORE: &str = "not-before";
 
@@ -65,6 +71,9 @@ kit logic dac8208d650f15bf";
 
 /// The most steps that a search may be given.
 const MOST_STEPS: u64 = 1_000_000_000;
+
+/// The most seconds that a search may be given.
+const MOST_SECONDS: u64 = 1_000_000_000;
 
 /// What stands below the list of words.
 const EXAMPLES: &str = "\
@@ -111,10 +120,13 @@ that is tried. A transcript is plain where no call lacks its end, no message lea
 undone answer hides what a witness would have to give. Where a plain transcript is given up with steps left, no order
 explains it.
 
-With --explain stands behind the line of a giving up whether that has decided, and if not, why: the budget is used up, or
-which calls are not plain; and behind that of a message outside what is judged each field that makes it so. With --json
-one JSON object stands in place of all lines, and has the same as members, with or without --explain. Neither goes
-together with --leaves or --not-before.
+With --seconds it gives up, too, once N seconds are over since it began, unless N is 0. Nothing is told by that, whatever
+steps are left, and what it finds ahead of it is what it finds without.
+
+With --explain stands behind the line of a giving up whether that has decided, and if not, why: the budget is used up,
+the seconds are over, or which calls are not plain; and behind that of a message outside what is judged each field that
+makes it so. With --json one JSON object stands in place of all lines, and has the same as members, with or without
+--explain. Neither goes together with --leaves or --not-before.
 
 With --open a call without its end is taken where an answer needs what it did, and a batch without order in other
 orders than by place. Of a plain transcript nothing changes; of another one nothing is told by giving up.
@@ -137,6 +149,7 @@ const CHAIN_HELP: &str = "\
 Example:
   kmip_audit chain days
   kmip_audit chain days --budget 5000000 --leaves next-declaration.ttlv
+  kmip_audit chain days --witnesses judged
 
 The segments of DIR are its files transcript*.ttlv, in the order of their names, byte by byte. The first goes on from
 declaration.ttlv, and each other one from what those before it leave and from their last stamp on. A segment is checked
@@ -146,6 +159,13 @@ is no yes ends it. A declaration that the server was asked for, declaration*.ttl
 stands ahead of, is held against what is left by then, and the first object that differs ends it too. Behind the last it
 prints 'chain: N segments, N calls; left: N entries, last stamp DATE', and only then --leaves writes the declaration of
 what the whole leaves.
+
+With --seconds the whole gives up once N seconds are over since it began, unless N is 0: in the search of a segment, or
+ahead of the next segment, for which it then prints 'gave up: 0 steps'.
+
+--witnesses writes the witness by which each segment is a yes, the one that was found or the one that was given, into
+FOLDER, which has to be there: witness*.ttlv, with the text of its transcript. Each is written ahead of the segment's
+line. So behind a no, a difference or a giving up those of the segments ahead of it were written, and no others.
 
 Status: 0 all yes; 1 no, or an object differs; 2 a file is refused; 3 a device failed or memory ran out;
   4 a search gave up; 64 wrong words";
@@ -173,8 +193,8 @@ pub struct Usage {
 /// The job that the words of a command line name, the first of which is the program's name.
 ///
 /// - `kmip_audit check TRANSCRIPT DECLARATION WITNESS [--explain] [--json] [--leaves OUT] [--not-before DATE] [--head HEX] [--torn]`
-/// - `kmip_audit search TRANSCRIPT DECLARATION OUT [--budget N] [--forced] [--open] [--quiet] [--explain] [--json] [--leaves LEFT] [--not-before DATE] [--head HEX] [--torn]`, N from 0 to 1,000,000,000
-/// - `kmip_audit chain DIR [--budget N] [--quiet] [--leaves OUT]`
+/// - `kmip_audit search TRANSCRIPT DECLARATION OUT [--budget N] [--seconds N] [--forced] [--open] [--quiet] [--explain] [--json] [--leaves LEFT] [--not-before DATE] [--head HEX] [--torn]`, each N from 0 to 1,000,000,000
+/// - `kmip_audit chain DIR [--budget N] [--seconds N] [--quiet] [--leaves OUT] [--witnesses FOLDER]`
 /// - `kmip_audit show FILE [--messages] [--notes]`
 /// - `kmip_audit write HEX OUT`
 pub fn read_words<'a, S: AsStr>(alloc: Global, words: &'a [S]) -> Result<Job<'a>, Usage>
@@ -287,8 +307,7 @@ fn search_with_steps<'a>(alloc: Global) -> Result<Command<'a>, AllocError>
     ensures app { IfOk result (λ command. app_of command ≡ search_steps_app) }
     ensures local { IfOk result (λ command. (out-Command command).has_globals ≡ false) }
 {
-    search_of_files(alloc)?
-        .arg(budget(alloc))?
+    search_with_limits(alloc)?
         .arg(flag(
             alloc,
             FORCED,
@@ -304,6 +323,16 @@ fn search_with_steps<'a>(alloc: Global) -> Result<Command<'a>, AllocError>
             QUIET,
             "Tells nothing on standard error while it searches",
         ))
+}
+
+/// A search with the options of how long it goes on.
+fn search_with_limits<'a>(alloc: Global) -> Result<Command<'a>, AllocError>
+    ensures app { IfOk result (λ command. app_of command ≡ search_limits_app) }
+    ensures local { IfOk result (λ command. (out-Command command).has_globals ≡ false) }
+{
+    search_of_files(alloc)?
+        .arg(budget(alloc))?
+        .arg(seconds(alloc))
 }
 
 /// A search without its options.
@@ -323,7 +352,9 @@ fn chain<'a>(alloc: Global) -> Result<Command<'a>, AllocError>
     ensures app { IfOk result (λ command. app_of command ≡ chain_app) }
     ensures local { IfOk result (λ command. (out-Command command).has_globals ≡ false) }
 {
-    chain_with_steps(alloc)?.arg(leaves(alloc, OUT))
+    chain_with_steps(alloc)?
+        .arg(leaves(alloc, OUT))?
+        .arg(witnesses(alloc))
 }
 
 /// A chain with the options of how it searches.
@@ -331,16 +362,25 @@ fn chain_with_steps<'a>(alloc: Global) -> Result<Command<'a>, AllocError>
     ensures app { IfOk result (λ command. app_of command ≡ chain_steps_app) }
     ensures local { IfOk result (λ command. (out-Command command).has_globals ≡ false) }
 {
-    Command::new(alloc, "chain")
-        .about("Judges the segments of a folder, one after the other")
-        .after_help(CHAIN_HELP)
-        .arg(file(alloc, DIR, "The folder of the segments"))?
+    chain_of_folder(alloc)?
         .arg(budget(alloc))?
+        .arg(seconds(alloc))?
         .arg(flag(
             alloc,
             QUIET,
             "Tells nothing on standard error while it searches",
         ))
+}
+
+/// A chain without its options.
+fn chain_of_folder<'a>(alloc: Global) -> Result<Command<'a>, AllocError>
+    ensures app { IfOk result (λ command. app_of command ≡ chain_folder_app) }
+    ensures local { IfOk result (λ command. (out-Command command).has_globals ≡ false) }
+{
+    Command::new(alloc, "chain")
+        .about("Judges the segments of a folder, one after the other")
+        .after_help(CHAIN_HELP)
+        .arg(file(alloc, DIR, "The folder of the segments"))
 }
 
 fn show<'a>(alloc: Global) -> Result<Command<'a>, AllocError>
@@ -398,6 +438,19 @@ fn budget<'a>(alloc: Global) -> Arg<'a>
         .help("The most steps that are made, from 0 to 1000000000")
 }
 
+/// How many seconds go by until a search ends.
+fn seconds<'a>(alloc: Global) -> Arg<'a>
+    ensures rule { rule_of result ≡ seconds_rule }
+    ensures local { result.global ≡ false }
+{
+    Arg::new(alloc, SECONDS)
+        .long(SECONDS)
+        .value_name("N")
+        .value_parser(ValueParser::unsigned(0, MOST_SECONDS))
+        .default_value("0")
+        .help("The seconds after which it gives up, from 0 to 1000000000; 0: never")
+}
+
 /// The declaration of what a run leaves, by this name.
 fn leaves<'a>(alloc: Global, value: &'a str) -> Arg<'a>
     ensures rule { rule_of result ≡ option_rule (codes "leaves") }
@@ -408,6 +461,19 @@ fn leaves<'a>(alloc: Global, value: &'a str) -> Arg<'a>
         LEAVES,
         value,
         "At a yes, the declaration that is written of what the run leaves",
+    )
+}
+
+/// The folder that the witnesses of a chain are written to.
+fn witnesses<'a>(alloc: Global) -> Arg<'a>
+    ensures rule { rule_of result ≡ option_rule (codes "witnesses") }
+    ensures local { result.global ≡ false }
+{
+    option(
+        alloc,
+        WITNESSES,
+        FOLDER,
+        "The folder that the witness of each segment that is a yes is written to",
     )
 }
 
@@ -556,6 +622,7 @@ fn search_of<'a>(words: &ArgMatches<'a>) -> Option<Job<'a>>
     };
     let search = SearchWords {
         budget: words.get_one::<u64>(BUDGET)?,
+        seconds: words.get_one::<u64>(SECONDS)?,
         forced: words.get_flag(FORCED),
         open: words.get_flag(OPEN),
         quiet: words.get_flag(QUIET),
@@ -573,8 +640,10 @@ fn chain_of<'a>(words: &ArgMatches<'a>) -> Option<Job<'a>>
     Some(Job::Chain {
         folder: words.get_str(DIR)?,
         budget: words.get_one::<u64>(BUDGET)?,
+        seconds: words.get_one::<u64>(SECONDS)?,
         quiet: words.get_flag(QUIET),
         leaves: words.get_str(LEAVES),
+        witnesses: words.get_str(WITNESSES),
     })
 }
 

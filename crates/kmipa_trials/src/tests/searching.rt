@@ -39,6 +39,15 @@ fn check_found(
     check(rt, tried == steps, "another number of steps");
 }
 
+// Checks that a search ended in so many steps, since its seconds were over.
+fn check_over(rt: &impl Abort, found: Result<Found, CheckFault>, steps: u64) {
+    let Ok(Found::OutOfTime(tried, seconds)) = found else {
+        rt.panic("no end in time");
+    };
+    check(rt, tried == steps, "another number of steps");
+    check(rt, seconds == 7, "other seconds");
+}
+
 // Call 1 is taken, call 2 is impossible behind it, and then call 2 is taken, and call 1.
 #[test]
 fn read_goes_ahead(rt: HostRuntime) {
@@ -58,6 +67,8 @@ struct Counts {
 }
 
 impl Watch for Counts {
+    ghost seconds = { λ counts. 0 };
+
     fn step(&mut self, _steps: u64, _taken: usize) {
         self.steps = self.steps.saturating_add(1);
     }
@@ -68,6 +79,10 @@ impl Watch for Counts {
 
     fn given_back(&mut self) {
         self.given_back = self.given_back.saturating_add(1);
+    }
+
+    fn over(&self) -> Option<u64> {
+        None
     }
 }
 
@@ -87,6 +102,66 @@ fn watcher_is_told(rt: HostRuntime) {
     check(&rt, told.steps == 4, "other steps");
     check(&rt, told.taken == 3, "other calls taken");
     check(&rt, told.given_back == 1, "other calls given back");
+}
+
+// Its seconds are over behind so many steps.
+#[derive(Drop)]
+struct Ends {
+    steps: u64,
+    most: u64,
+}
+
+impl Watch for Ends {
+    ghost seconds = { λ ends. 7 };
+
+    fn step(&mut self, _steps: u64, _taken: usize) {
+        self.steps = self.steps.saturating_add(1);
+    }
+
+    fn taken(&mut self, _call: i32) {}
+
+    fn given_back(&mut self) {}
+
+    fn over(&self) -> Option<u64> {
+        if self.steps >= self.most {
+            Some(7)
+        } else {
+            None
+        }
+    }
+}
+
+// The same search, of which the seconds are over behind its third try.
+#[test]
+fn search_ends_in_time(rt: HostRuntime) {
+    let alloc = rt.alloc();
+    let transcript = transcript_of(&rt, alloc, &OVERLAPPING);
+    let declaration = declared(&rt, alloc, &[DECLARATION, ENTRY]);
+    let mut ends = Ends { steps: 0, most: 3 };
+    let found = search_watched(alloc, &transcript, &declaration, BUDGET, &mut ends);
+    check_over(&rt, found, 3);
+}
+
+// They are as many as it needs, and nothing changes.
+#[test]
+fn search_has_time(rt: HostRuntime) {
+    let alloc = rt.alloc();
+    let transcript = transcript_of(&rt, alloc, &OVERLAPPING);
+    let declaration = declared(&rt, alloc, &[DECLARATION, ENTRY]);
+    let mut ends = Ends { steps: 0, most: 4 };
+    let found = search_watched(alloc, &transcript, &declaration, BUDGET, &mut ends);
+    check_found(&rt, found, ((2, false), (1, false)), 4);
+}
+
+// A search that takes open calls ends so too.
+#[test]
+fn open_search_ends_in_time(rt: HostRuntime) {
+    let alloc = rt.alloc();
+    let transcript = transcript_of(&rt, alloc, &OPEN_REGISTER);
+    let declaration = declared(&rt, alloc, &[DECLARATION]);
+    let mut ends = Ends { steps: 0, most: 2 };
+    let found = search_open(alloc, &transcript, &declaration, BUDGET, &mut ends);
+    check_over(&rt, found, 2);
 }
 
 // The Get is impossible, and then the Register is taken with an answer of the witness, and the Get.
