@@ -1,286 +1,174 @@
-"""The three files, and what is wrong with them (docs/FORMATS.md, The three files and Record faults)."""
+"""FORMATS, The three files and Record faults: transcripts, declarations and witnesses."""
 from __future__ import annotations
-
 from dataclasses import dataclass, field
-from typing import Callable, Dict, Iterator, List, Optional, Set, Tuple
+from enum import Enum
+from hashlib import sha256
+from typing import Iterator, Optional
+from objects import ACTS, NOT, TABLE, Object, kinds_of_attributes, read_attributes
+from tags import DATES, Tag
+from ttlv import Item, TtlvFault, described, first_of, is_exactly, item_at
 
-from attributes import read_attributes
-from objects import (ACTIVATION, ALGORITHM, COMPROMISE, DEACTIVATION, DESTROY, INITIAL, LENGTH, MASK, MAY, MUST, NAME, NOT, ROWS,
-                     SECRET_DATA, SYMMETRIC_KEY, DATES, Attributes, Inventory, Object, Secret, admits)
-from seals import Misplaced, Seals, is_sealed_header
-from ttlv import BOOLEAN, BYTES, DATE, ENUMERATION, FAULTS, INTEGER, STRUCTURE, TEXT, Item, TtlvFault, decode, head_at
-
-KINDS = ("", "Ttlv", "Header", "Number", "EndWithoutBegin", "SecondEnd", "", "Identifier", "Entry", "Calls", "Device", "Memory",
-         "Seal", "NoClose", "Order")
-NO_CLOSE = 13
-TTLV, HEADER, NUMBER, END_WITHOUT_BEGIN, SECOND_END, _, IDENTIFIER, ENTRY, CALLS = range(1, 10)
-MOST_CALLS, MOST_TOLERANCE = 100000, 86400
-REFUSED, SET_ASIDE, UNKNOWN = 1, 2, 3
-EVERYONE, MAY_HIDE, MUST_HIDE = 1, 2, 3
+Fault = Enum("Fault", "Ttlv Header Number EndWithoutBegin SecondEnd Unused Identifier Entry Calls Device "
+                      "Memory Seal NoClose Order")
+MOST_CALLS, SEAL_LENGTH, NEVER = 100_000, 32, 1 << 63
+(REFUSED, SET_ASIDE, UNKNOWN), (EVERYONE, MAY_HIDE, MUST_HIDE) = (1, 2, 3), (1, 2, 3)
 NOT_FOUND, WRONG_STATE, TAKEN_NAME = 1, 2, 3
-LISTED = (NAME, ALGORITHM, LENGTH, MASK, INITIAL, ACTIVATION, DEACTIVATION, DESTROY, COMPROMISE)
+OWN = (Tag.NAME, Tag.ALGORITHM, Tag.LENGTH, Tag.MASK, Tag.ACTIVATION, Tag.DEACTIVATION)
+ENTRY, SEALED = "IDENTIFIER OBJECT_TYPE=2,7 ATTRIBUTES KEY_MATERIAL?", "SEALED_AT SEAL"
+# Of each file, for each version, the header and the records behind it.
+FORMS = {name: [described(it) for it in texts] for name, texts in {
+    "transcript": (
+        "TRANSCRIPT(VERSION=1) BEGIN(CALL CLIENT MESSAGE) END(CALL MESSAGE)",
+        f"TRANSCRIPT(VERSION=2 RECORDING SEGMENT PREVIOUS) BEGIN(CALL CLIENT MESSAGE {SEALED}) "
+        f"END(CALL MESSAGE {SEALED}) NOTE(NOTE_KIND=1-5 NOTE_TEXT {SEALED}) CLOSE(RECORDS {SEALED})"),
+    "declaration": (
+        f"DECLARATION(VERSION=1 UNIQUE_NAMES) ROW(REASON CAUSE=1-3) ENTRY({ENTRY})",
+        "DECLARATION(VERSION=2 UNIQUE_NAMES UNJUDGED=1-3 TOLERANCE=0-86400 VISIBILITY=1-3) "
+        "ROW(REASON CAUSE=1-3) ALLOW_LINE(ACT=1-6 STATE=1-6 ALLOW=1-3) OWN_LINE(REFERENCE) "
+        f"ENTRY({ENTRY} OWNER?) ASIDE_ENTRY(IDENTIFIER)"),
+    "witness": (
+        "WITNESS(VERSION=1) TURN(CALL FILL*(ITEM SHOWN))",
+        "WITNESS(VERSION=2) TURN(CALL ANSWER? FILL*(ITEM SHOWN))",
+        "WITNESS(VERSION=3) TURN(CALL ANSWER? PLACE* FILL*(ITEM SHOWN))",
+        "WITNESS(VERSION=4) TURN(CALL ANSWER? PLACE* MOMENT? FILL*(ITEM SHOWN) "
+        "BIRTH*(ITEM ATTRIBUTES) ASIDE*)")}.items()}
+STAGES = {Tag.ROW: 1, Tag.ALLOW_LINE: 2, Tag.OWN_LINE: 3, Tag.ENTRY: 4, Tag.ASIDE_ENTRY: 4}
+Inventory = dict[Optional[str], Object]
 
+class Ended(Exception):
+    """The line that is printed where the verdict comes ahead of the turns."""
 
-class Malformed(Exception):
-    """The first record fault: its kind, its offset, and for kind 1 the name of the fault of TTLV."""
+def refuse(name: str, at: int, *tests: tuple[object, Fault]) -> None:
+    """Tells the first of these faults that holds for the record at an offset."""
+    fault = first_of(tests)
+    if fault is not None:
+        raise Ended(f"malformed: {name} offset {at} kind {fault.value} {fault.name}")
 
-    def __init__(self, kind: int, offset: int, ttlv: str = "") -> None:
-        super().__init__(f"offset {offset} kind {kind} {KINDS[kind]}{' ' + ttlv if ttlv else ''}")
-        self.kind, self.offset = kind, offset
-
+def records_of(name: str, data: bytes) -> Iterator[tuple[int, Item, bytes]]:
+    """The records of a file with their offsets and bytes, the header first, each of a form of its version."""
+    at, fault, allowed = 0, Fault.Header, tuple(it[0] for it in FORMS[name])
+    refuse(name, 0, (not data, Fault.Header))
+    while at < len(data):
+        try:
+            item, after = item_at(data, at, len(data))
+        except TtlvFault as why:
+            raise Ended(f"malformed: {name} offset {why.args[1]} kind 1 Ttlv {why.args[0].name}") from None
+        refuse(name, at, (not any(is_exactly(item, it) for it in allowed), fault))
+        if at == 0:
+            fault, allowed = Fault.Entry, next(it[1:] for it in FORMS[name] if is_exactly(item, it[0]))
+        yield at, item, data[at:after]
+        at = after
 
 @dataclass
 class Call:
-    """A call: its number, where its marks stand, its client, and its messages; of an open call the last two are None."""
-
+    """A call: its number, its client, its messages, and where its marks are; an open one has no response."""
     number: int
-    begin: int
     client: str
     request: bytes
-    end: Optional[int] = None
-    response: Optional[bytes] = None
+    begin: int
+    end: int = NEVER
+    response: bytes | None = None
 
+def read_transcript(data: bytes) -> list[Call]:
+    """The calls of a transcript, in the order of their begin marks; the records of a sealed one are right."""
+    calls: dict[int, Call] = {}
+    records = records_of("transcript", data)
+    _, header, raw = next(records)
+    is_sealed = header.get(Tag.VERSION) == 2
+    segment, previous = header.get(Tag.SEGMENT), header.get(Tag.PREVIOUS)
+    is_odd = is_sealed and (segment < 1 or len(previous) != SEAL_LENGTH or (segment == 1) == any(previous))
+    refuse("transcript", 0, (is_odd, Fault.Header))
+    seal, moment, count, is_closed = sha256(raw).digest(), -NEVER, 0, not is_sealed
+    for at, item, raw in records:
+        number, message, shown, now = map(item.get, (Tag.CALL, Tag.MESSAGE, Tag.SEAL, Tag.SEALED_AT))
+        begins, ends, closes = (item.tag == it for it in (Tag.BEGIN, Tag.END, Tag.CLOSE))
+        known, seal = calls.get(number), sha256(seal + raw[:-SEAL_LENGTH]).digest()
+        refuse("transcript", at,
+               (is_sealed and (is_closed or len(shown) != SEAL_LENGTH), Fault.Entry),
+               (is_sealed and (shown != seal or closes and item.get(Tag.RECORDS) != count), Fault.Seal),
+               (is_sealed and now < moment, Fault.Order),
+               ((begins or ends) and number < 1 or begins and known, Fault.Number),
+               (begins and len(calls) == MOST_CALLS, Fault.Calls),
+               (ends and known is None, Fault.EndWithoutBegin),
+               (ends and known and known.response is not None, Fault.SecondEnd))
+        moment, count, is_closed = now, count + 1, closes or not is_sealed
+        if begins:
+            calls[number] = Call(number, item.get(Tag.CLIENT), message, at)
+        elif known is not None:
+            known.end, known.response = at, message
+    refuse("transcript", len(data), (not is_closed, Fault.NoClose))
+    return [*calls.values()]
+
+def head_of(data: bytes) -> str:
+    """The line that tells the last seal of a transcript in which nothing is wrong, if it has any."""
+    header, _ = item_at(data, 0, len(data))
+    said = (header.get(Tag.RECORDING) or "").encode()
+    told = "".join(chr(it) if 32 <= it <= 126 and it not in b'"\\' else f"\\x{it:02x}" for it in said)
+    line = f"\nsealed: {told} segment {header.get(Tag.SEGMENT)} head {data[-SEAL_LENGTH:].hex()}"
+    return line if header.get(Tag.VERSION) == 2 else ""
 
 @dataclass
 class Declaration:
-    """What the server held at the start, and its rules: unique names, what becomes of what isn't judged, how far moments may be from stamps,
-    who sees whose objects, rows of a reason and a cause, words for cells of the table, and what the server itself gives at birth."""
-
+    """What the server held at the start, and its rules: unique names, what becomes of what isn't judged, how
+    far moments may be from stamps, who sees whose objects, causes of reasons, words for cells of the table,
+    what the server itself gives at birth; and which identifiers are aside."""
     unique_names: bool
-    unjudged: int = REFUSED
-    tolerance: int = 0
-    visibility: int = EVERYONE
-    rows: List[Tuple[int, int]] = field(default_factory=list)
-    lines: Dict[Tuple[str, int], str] = field(default_factory=dict)
-    own: List[int] = field(default_factory=list)
+    unjudged: int
+    tolerance: int
+    visibility: int
+    rows: list[tuple[int, int]] = field(default_factory=list)
+    lines: dict[tuple[int, int], int] = field(default_factory=dict)
+    own: list[int] = field(default_factory=list)
     entries: Inventory = field(default_factory=dict)
-    aside: Set[str] = field(default_factory=set)
-
-    @property
-    def sets_aside(self) -> bool:
-        """Whether what isn't judged is set aside, and ends nothing."""
-        return self.unjudged != REFUSED
-
-
-@dataclass
-class Turn:
-    """A turn of a witness: its call, the answer of an open call, the order of its places, its moment, fills and births by item, and which items
-    are set aside, or all of the call: 0."""
-
-    call: int
-    answer: Optional[bytes]
-    places: List[int]
-    moment: Optional[int]
-    fills: List[Tuple[int, Item]]
-    births: List[Tuple[int, Item]]
-    asides: List[int]
-
-
-def has_form(item: Item, tag: int, *wanted: Tuple[int, int, str]) -> bool:
-    """Whether an item is the Structure of this tag with exactly these children: each a tag, a type, and '' for once, '?' or '*'."""
-    left = list(item.children)
-    for child_tag, kind, how in wanted:
-        many = 0
-        while left and left[0].tag == child_tag and left[0].type == kind and (how == "*" or not many):
-            left.pop(0)
-            many += 1
-        if not many and not how:
-            return False
-    return item.tag == tag and item.type == STRUCTURE and not left
-
-
-def number(item: Item) -> int:
-    """The number of an item that has one."""
-    return int(item.value) if isinstance(item.value, int) else 0
-
-
-def data_of(item: Item) -> bytes:
-    """The bytes of an item that has some."""
-    return item.value if isinstance(item.value, bytes) else b""
-
-
-def records(data: bytes, is_header: Callable[[Item], bool]) -> Iterator[Tuple[int, Item]]:
-    """The records of a file with their offsets, the header first."""
-    at = 0
-    while at < len(data) or at == 0:
-        if not data:
-            raise Malformed(HEADER, 0)
-        try:
-            item, taken = decode(data[at:at + 1048576])
-        except TtlvFault as fault:
-            raise Malformed(TTLV, at + fault.offset, FAULTS[fault.kind]) from None
-        if at == 0 and not is_header(item):
-            raise Malformed(HEADER, 0)
-        yield at, item
-        at += taken
-
-
-def take_sealed(seals: Seals, data: bytes, at: int, item: Item) -> Optional[Item]:
-    """The mark that a sealed record at a place is, as one of version 1; None where it is none."""
-    try:
-        return seals.take(data[at:at + head_at(data, at)[3]], item)
-    except Misplaced as fault:
-        raise Malformed(fault.kind, at) from None
-
-
-def read_transcript(data: bytes) -> Tuple[List[Call], Optional[Seals]]:
-    """The calls of a transcript, in the order of their begin marks, and its seals, if it has any."""
-    calls: Dict[int, Call] = {}
-    seals: Optional[Seals] = None
-    header = lambda it: has_form(it, 0x540001, (0x540002, INTEGER, "")) and number(it.children[0]) == 1
-    for place, (at, read) in enumerate(records(data, lambda it: header(it) or is_sealed_header(it))):
-        if place == 0:
-            seals = Seals(data[:head_at(data, 0)[3]], read) if is_sealed_header(read) else None
-            continue
-        item = read if seals is None else take_sealed(seals, data, at, read)
-        if item is None:
-            continue
-        begins = has_form(item, 0x540010, (0x540011, INTEGER, ""), (0x540012, TEXT, ""), (0x540013, BYTES, ""))
-        if not begins and not has_form(item, 0x540020, (0x540011, INTEGER, ""), (0x540013, BYTES, "")):
-            raise Malformed(ENTRY, at)
-        call, message = number(item.children[0]), data_of(item.children[-1])
-        if call < 1 or begins and call in calls:
-            raise Malformed(NUMBER, at)
-        if begins and len(calls) == MOST_CALLS:
-            raise Malformed(CALLS, at)
-        if begins:
-            calls[call] = Call(call, place, str(item.children[1].value), message)
-        elif call not in calls or calls[call].end is not None:
-            raise Malformed(END_WITHOUT_BEGIN if call not in calls else SECOND_END, at)
-        else:
-            calls[call].end, calls[call].response = place, message
-    if seals and not seals.is_closed:
-        raise Malformed(NO_CLOSE, len(data))
-    return list(calls.values()), seals
-
-
-def read_entry(item: Item, version: int) -> Optional[Tuple[str, Object]]:
-    """The object that an entry declares, or None where it is none."""
-    wanted = ((0x420094, TEXT, ""), (0x420057, ENUMERATION, ""), (0x420125, STRUCTURE, ""), (0x420043, BYTES, "?"))
-    if not has_form(item, 0x540034, *wanted, *(((0x54003C, TEXT, "?"),) if version > 1 else ())):
-        return None
-    said, faults = read_attributes(item.children[2], False)
-    kind, held = number(item.children[1]), item.first(0x420043)
-    key = data_of(held) if held else None
-    is_destroyed = DESTROY in said.single
-    is_listed = all(it.tag in LISTED for it in item.children[2].children)
-    may_be = key is None if is_destroyed else admits(kind, said, key)
-    if faults or kind not in (SYMMETRIC_KEY, SECRET_DATA) or not is_listed or not may_be:
-        return None
-    dates = {tag: at for tag, at in said.single.items() if tag in DATES}
-    given = Attributes(said.names, {tag: it for tag, it in said.single.items() if tag not in DATES})
-    owner = item.first(0x54003C)
-    return str(item.children[0].value), Object(kind, given, dates, Secret(key), identity_of(str(owner.value)) if owner else None)
-
-
-ACTS = ("", "Get", "Get Attributes", "Activate", "Revoke 2, 3", "Revoke", "Destroy")
-WORDS = ("", MUST, MAY, NOT)
-OWN = (NAME, ALGORITHM, LENGTH, MASK, ACTIVATION, DEACTIVATION)
-ROW, ALLOW_LINE, OWN_LINE, ASIDE_ENTRY = 0x540032, 0x540038, 0x54003B, 0x54003D
-
+    aside: set[str | None] = field(default_factory=set)
 
 def identity_of(client: str) -> str:
     """Who a client is: its text up to the first blank or slash."""
     return client.replace("/", " ").split(" ")[0]
 
-
-def is_declaration(item: Item) -> bool:
-    """Whether an item is the header of a declaration, whose numbers are those of their tables."""
-    front = ((0x540002, INTEGER, ""), (0x540031, BOOLEAN, ""))
-    more = ((0x540035, ENUMERATION, ""), (0x540036, INTEGER, ""), (0x540037, ENUMERATION, ""))
-    version, *rest = [number(it) for it in item.children[:1] + item.children[2:]] or [0]
-    if version == 1:
-        return has_form(item, 0x540030, *front)
-    return version == 2 and has_form(item, 0x540030, *front, *more) and rest[0] in (1, 2, 3) and 0 <= rest[1] <= MOST_TOLERANCE and \
-        rest[2] in (1, 2, 3)
-
-
-def take_row(item: Item, said: Declaration) -> bool:
-    """Notes a row of the cause table; whether it is one."""
-    said.rows.append((number(item.children[0]), number(item.children[-1])))
-    return has_form(item, ROW, (0x42007E, ENUMERATION, ""), (0x540033, ENUMERATION, "")) and said.rows[-1][1] in (NOT_FOUND, WRONG_STATE, TAKEN_NAME)
-
-
-def take_allow_line(item: Item, said: Declaration) -> bool:
-    """Notes the word that an allow line has for a cell of the table; whether it may have one."""
-    if not has_form(item, ALLOW_LINE, (0x540039, ENUMERATION, ""), (0x42008D, ENUMERATION, ""), (0x54003A, ENUMERATION, "")):
-        return False
-    act, state, word = (number(it) for it in item.children)
-    if not (1 <= act <= 6 and 1 <= state <= 6 and 1 <= word <= 3) or ROWS[ACTS[act]][state - 1] == NOT or (ACTS[act], state) in said.lines:
-        return False
-    said.lines[ACTS[act], state] = WORDS[word]
-    return True
-
-
-def take_own_line(item: Item, said: Declaration) -> bool:
-    """Notes an attribute that the server itself may give an object at birth; whether it may be one."""
-    said.own.append(number(item.children[0]) if has_form(item, OWN_LINE, (0x42013B, ENUMERATION, "")) else 0)
-    return said.own[-1] in OWN and said.own[-1] not in said.own[:-1]
-
-
-def take_entry(item: Item, said: Declaration, version: int) -> int:
-    """Notes an entry, or an identifier that is set aside; the fault of it, or 0."""
-    is_aside = said.sets_aside and has_form(item, ASIDE_ENTRY, (0x420094, TEXT, ""))
-    entry = None if is_aside else read_entry(item, version)
-    if not is_aside and entry is None:
-        return ENTRY
-    identifier = entry[0] if entry else str(item.children[0].value)
-    if identifier in said.entries or identifier in said.aside:
-        return IDENTIFIER
-    if entry:
-        said.entries[identifier] = entry[1]
-    else:
-        said.aside.add(identifier)
-    return 0
-
+def entry_of(item: Item) -> Object | None:
+    """The object that an entry declares, or None where it can't."""
+    held, key, owner = item.inner(Tag.ATTRIBUTES), item.get(Tag.KEY_MATERIAL), item.get(Tag.OWNER)
+    names, single = read_attributes(held.children)
+    single[Tag.OBJECT_TYPE] = item.get(Tag.OBJECT_TYPE)
+    made = Object(names, single, [] if key is None else [key], None if owner is None else identity_of(owner))
+    is_wrong = any(it.tag not in (*OWN, *DATES) for it in held.children) or any(kinds_of_attributes(held))
+    may_be = key is None if Tag.DESTROY in single else made.admits(made.secret)
+    return made if may_be and not is_wrong else None
 
 def read_declaration(data: bytes) -> Declaration:
     """What a declaration says: rows, then allow lines, then own lines, then entries."""
-    said, version, stage = Declaration(False), 0, 0
-    of_lines = (ROW, ALLOW_LINE, OWN_LINE)
-    for place, (at, item) in enumerate(records(data, is_declaration)):
-        if place == 0:
-            version, said.unique_names = number(item.children[0]), bool(item.children[1].value)
-            said.unjudged, said.tolerance, said.visibility = [number(it) for it in item.children[2:]] or [REFUSED, 0, EVERYONE]
-            continue
-        before, stage = stage, of_lines.index(item.tag) if item.tag in of_lines else len(of_lines)
-        is_early = stage < before or item.tag in of_lines[1:] and version == 1 or not item.children
-        if stage == len(of_lines):
-            fault = take_entry(item, said, version)
+    records, stage = records_of("declaration", data), 0
+    _, header, _ = next(records)
+    said = Declaration(header.get(Tag.UNIQUE_NAMES), header.get(Tag.UNJUDGED) or REFUSED,
+                       header.get(Tag.TOLERANCE) or 0, header.get(Tag.VISIBILITY) or EVERYONE)
+    for at, item, _ in records:
+        before, stage, entry = stage, STAGES[item.tag], entry_of(item) if item.tag == Tag.ENTRY else None
+        identifier, own, act, state = map(item.get, (Tag.IDENTIFIER, Tag.REFERENCE, Tag.ACT, Tag.STATE))
+        cell = ACTS[(act or 1) - 1], state
+        refuse("declaration", at, (stage < before, Fault.Entry),
+               (TABLE.get(cell) == NOT or cell in said.lines, Fault.Entry),
+               (item.tag == Tag.OWN_LINE and own not in OWN or own in said.own, Fault.Entry),
+               (item.tag == Tag.ENTRY and entry is None, Fault.Entry),
+               (item.tag == Tag.ASIDE_ENTRY and said.unjudged == REFUSED, Fault.Entry),
+               (identifier in said.entries or identifier in said.aside, Fault.Identifier))
+        if item.tag == Tag.ROW:
+            said.rows.append((item.get(Tag.REASON), item.get(Tag.CAUSE)))
+        elif item.tag == Tag.ALLOW_LINE:
+            said.lines[cell] = item.get(Tag.ALLOW)
+        elif item.tag == Tag.OWN_LINE:
+            said.own.append(own)
+        elif entry is not None:
+            said.entries[identifier] = entry
         else:
-            fault = 0 if not is_early and (take_row, take_allow_line, take_own_line)[stage](item, said) else ENTRY
-        if fault:
-            raise Malformed(fault, at)
+            said.aside.add(identifier)
     said.rows = said.rows or [(1, NOT_FOUND)]
     return said
 
-
-def parts_of(turn: Item, tag: int, held: int) -> Optional[List[Tuple[int, Item]]]:
-    """What a turn says of items: of each its place and a Structure; None where one has another form."""
-    items = turn.every(tag)
-    are_formed = all(has_form(it, tag, (0x540043, INTEGER, ""), (held, STRUCTURE, "")) for it in items)
-    return [(number(it.children[0]), it.children[1]) for it in items] if are_formed else None
-
-
-def read_witness(data: bytes) -> List[Turn]:
+def read_witness(data: bytes) -> list[Item]:
     """The turns of a witness."""
-    turns: List[Turn] = []
-    version = 0
-    header = lambda it: has_form(it, 0x540040, (0x540002, INTEGER, "")) and number(it.children[0]) in (1, 2, 3, 4)
-    parts = ((0x540011, INTEGER, "", 1), (0x540044, BYTES, "?", 2), (0x540045, INTEGER, "*", 3), (0x540046, DATE, "?", 4),
-             (0x540042, STRUCTURE, "*", 1), (0x540047, STRUCTURE, "*", 4), (0x540048, INTEGER, "*", 4))
-    for place, (at, item) in enumerate(records(data, header)):
-        if place == 0:
-            version = number(item.children[0])
-            continue
-        fills, births = parts_of(item, 0x540042, 0x42007C), parts_of(item, 0x540047, 0x420125)
-        is_turn = has_form(item, 0x540041, *((tag, kind, how) for tag, kind, how, since in parts if since <= version))
-        if not is_turn or fills is None or births is None:
-            raise Malformed(ENTRY, at)
-        if number(item.children[0]) < 1:
-            raise Malformed(NUMBER, at)
-        answer, moment = item.first(0x540044), item.first(0x540046)
-        places, asides = ([number(it) for it in item.every(tag)] for tag in (0x540045, 0x540048))
-        turns.append(Turn(number(item.children[0]), data_of(answer) if answer else None, places, number(moment) if moment else None, fills, births,
-                          asides))
-    return turns
+    turns: list[Item] = []
+    for at, item, _ in records_of("witness", data):
+        refuse("witness", at, (item.tag == Tag.TURN and item.get(Tag.CALL) < 1, Fault.Number))
+        turns.append(item)
+    return turns[1:]

@@ -1,115 +1,79 @@
-"""Objects, their attributes, and their states (docs/PROFILE.md, Objects, States, Operations)."""
+"""PROFILE, Objects, States, Operations and Attributes: objects, and what attributes say."""
 from __future__ import annotations
+from dataclasses import dataclass, replace
+from typing import Iterator, Sequence
+from tags import (ACTIVATE, AES, DESTROY, GET, GET_ATTRIBUTES, REVOKE, SECRET_DATA, SINGLE, SYMMETRIC_KEY,
+                  TYPES, Tag)
+from ttlv import Item, Outside, first_of
 
-from dataclasses import dataclass, field, replace
-from typing import Dict, FrozenSet, Optional, Tuple
+PRE_ACTIVE, ACTIVE, DEACTIVATED, COMPROMISED, DESTROYED, DESTROYED_COMPROMISED = STATES = range(1, 7)
+MUST, MAY, NOT = range(1, 4)
+# A Revoke with the code Key Compromise or CA Compromise has a row of its own.
+REVOKE_COMPROMISED = -REVOKE
+# The table of operations: what is possible in each state, from Pre-Active on.
+ACTS = GET, GET_ATTRIBUTES, ACTIVATE, REVOKE_COMPROMISED, REVOKE, DESTROY
+TABLE = {(act, state): word for act, words in zip(ACTS, (
+    (MUST, MUST, MUST, MUST, NOT, NOT),
+    (MUST, MUST, MUST, MUST, MAY, MAY),
+    (MUST, NOT, NOT, NOT, NOT, NOT),
+    (MUST, MUST, MUST, MAY, MAY, MAY),
+    (NOT, MUST, MAY, NOT, NOT, NOT),
+    (MUST, MAY, MUST, MUST, NOT, NOT))) for state, word in zip(STATES, words)}
+# The dates that a success sets, and in which states.
+SETS: dict[int, dict[int, Sequence[int]]] = {
+    ACTIVATE: {Tag.ACTIVATION: STATES},
+    REVOKE_COMPROMISED: {Tag.COMPROMISE: (PRE_ACTIVE, ACTIVE, DEACTIVATED, DESTROYED)},
+    REVOKE: {Tag.DEACTIVATION: (ACTIVE,)},
+    DESTROY: {Tag.DESTROY: STATES, Tag.DEACTIVATION: (ACTIVE,)}}
+NOT_FOR_CLIENTS = (Tag.STATE, Tag.INITIAL, Tag.DESTROY, Tag.COMPROMISE, Tag.IDENTIFIER)
+Name = tuple[str, int]
 
-SYMMETRIC_KEY, SECRET_DATA, AES = 2, 7, 3
-PRE_ACTIVE, ACTIVE, DEACTIVATED, COMPROMISED, DESTROYED, DESTROYED_COMPROMISED = range(1, 7)
-MUST, MAY, NOT = "must", "may", "not"
+def name_of(item: Item) -> Name | None:
+    """The name that a Name says, or None where it says none."""
+    value, kind = item.get(Tag.NAME_VALUE), item.get(Tag.NAME_TYPE) if item.first(Tag.NAME_TYPE) else 1
+    return None if value is None or kind is None else (value, kind)
 
-Name = Tuple[str, int]
+def read_attributes(given: Sequence[Item]) -> tuple[frozenset[Name], dict[int, int]]:
+    """The names that attributes say, and by its tag the first value of each single kind."""
+    names = frozenset(filter(None, (name_of(it) for it in given if it.tag == Tag.NAME)))
+    first = {it.tag: it.value for it in reversed(given) if it.tag in SINGLE and it.type == TYPES[it.tag]}
+    return names, first
 
-
-@dataclass(frozen=True)
-class Attributes:
-    """What attributes say: the names, and the single values by their tags."""
-
-    names: FrozenSet[Name] = frozenset()
-    single: Dict[int, int] = field(default_factory=dict)
-
-    def get(self, tag: int) -> Optional[int]:
-        """The value of a single attribute, if it is there."""
-        return self.single.get(tag)
-
-    def completed(self, more: Attributes) -> Attributes:
-        """The same with others: single values stand in place of those that are there, names are added."""
-        return Attributes(self.names | more.names, {**self.single, **more.single})
-
-
-# Tags of single judged attributes.
-ACTIVATION, COMPROMISE, ALGORITHM, LENGTH, MASK = 0x420001, 0x420020, 0x420028, 0x42002A, 0x42002C
-DEACTIVATION, DESTROY, INITIAL, OBJECT_TYPE, STATE, NAME = 0x42002F, 0x420033, 0x420039, 0x420057, 0x42008D, 0x420053
-DATES = (INITIAL, ACTIVATION, DEACTIVATION, DESTROY, COMPROMISE)
-
-# The table of operations: a row has what is possible in each state, from Pre-Active to Destroyed Compromised.
-ROWS = {
-    "Get": (MUST, MUST, MUST, MUST, NOT, NOT),
-    "Get Attributes": (MUST, MUST, MUST, MUST, MAY, MAY),
-    "Activate": (MUST, NOT, NOT, NOT, NOT, NOT),
-    "Revoke 2, 3": (MUST, MUST, MUST, MAY, MAY, MAY),
-    "Revoke": (NOT, MUST, MAY, NOT, NOT, NOT),
-    "Destroy": (MUST, MAY, MUST, MUST, NOT, NOT),
-}
-
-
-def admits(kind: int, attributes: Attributes, data: Optional[bytes]) -> bool:
-    """Whether an object of this kind may have these bytes; None asks whether it may have any at all."""
-    length = attributes.get(LENGTH)
-    if kind != SYMMETRIC_KEY or attributes.get(ALGORITHM) != AES or length is None:
-        return True
-    return length > 0 and length % 8 == 0 and (data is None or 8 * len(data) == length)
-
-
-@dataclass
-class Secret:
-    """The key bytes of an object from its birth on: None while nobody has shown them. What is learned stays learned."""
-
-    known: Optional[bytes]
-
+def kinds_of_attributes(item: Item, is_client: bool = False, is_filter: bool = False) -> Iterator[Outside]:
+    """The kinds of outside that hold in Attributes: a client's, a Locate's filters, or those of a server."""
+    for it in item.every(Tag.NAME, *SINGLE, *NOT_FOR_CLIENTS):
+        is_second = it is not item.first(it.tag) and not is_filter
+        is_wrong = not name_of(it) if it.tag == Tag.NAME else it.type != TYPES[it.tag] or is_second
+        if is_wrong and it.tag in (Tag.NAME, *SINGLE) or is_client and it.tag in NOT_FOR_CLIENTS:
+            yield Outside.Attribute
+    if item.get(Tag.OBJECT_TYPE) not in (None, SYMMETRIC_KEY, SECRET_DATA):
+        yield Outside.ObjectType
 
 @dataclass(frozen=True)
 class Object:
-    """An object: its kind, what its client gave, its dates, its bytes, and whose it is, where it is somebody's."""
-
-    kind: int
-    given: Attributes
-    dates: Dict[int, int]
-    secret: Secret
-    owner: Optional[str] = None
-
-    @property
-    def is_destroyed(self) -> bool:
-        """Whether it has a Destroy Date."""
-        return DESTROY in self.dates
+    """An object: its names; its type, algorithm, length, mask and dates; its key bytes, in a list that is
+    empty while nobody has shown them: what is learned stays learned; and whose it is."""
+    names: frozenset[Name]
+    single: dict[int, int]
+    secret: list[bytes]
+    owner: str | None
 
     def state(self, now: int) -> int:
         """Its state at a moment, by its dates alone."""
-        if DESTROY in self.dates:
-            return DESTROYED_COMPROMISED if COMPROMISE in self.dates else DESTROYED
-        if COMPROMISE in self.dates:
-            return COMPROMISED
-        if ACTIVATION not in self.dates or self.dates[ACTIVATION] > now:
-            return PRE_ACTIVE
-        is_over = DEACTIVATION in self.dates and self.dates[DEACTIVATION] <= now
-        return DEACTIVATED if is_over else ACTIVE
+        is_destroyed, is_compromised = Tag.DESTROY in self.single, Tag.COMPROMISE in self.single
+        return first_of((
+            (is_destroyed and is_compromised, DESTROYED_COMPROMISED), (is_destroyed, DESTROYED),
+            (is_compromised, COMPROMISED), (self.single.get(Tag.ACTIVATION, now + 1) > now, PRE_ACTIVE),
+            (self.single.get(Tag.DEACTIVATION, now + 1) <= now, DEACTIVATED))) or ACTIVE
 
-    def allows(self, row: str, now: int, lines: Dict[Tuple[str, int], str]) -> str:
-        """What its state says of an operation, by the declaration's own word for the cell or by the table's."""
-        return lines.get((row, self.state(now)), ROWS[row][self.state(now) - 1])
+    def admits(self, secret: list[bytes]) -> bool:
+        """Whether it may have these key bytes; none asks whether it may have any at all."""
+        kind, algorithm, length = map(self.single.get, (Tag.OBJECT_TYPE, Tag.ALGORITHM, Tag.LENGTH))
+        if (kind, algorithm) != (SYMMETRIC_KEY, AES) or length is None:
+            return True
+        return length > 0 and length % 8 == 0 and all(8 * len(it) == length for it in secret)
 
-    def dated(self, now: int, *tags: int) -> Object:
-        """The same object with these dates set to a moment."""
-        return replace(self, dates={**self.dates, **dict.fromkeys(tags, now)})
-
-
-Inventory = Dict[str, Object]
-
-
-def born(kind: int, given: Attributes, now: int, data: Optional[bytes], owner: str) -> Object:
-    """The object that a Create or Register adds: the client's who asked for it."""
-    dates = {INITIAL: now, **{it: at for it, at in given.single.items() if it in (ACTIVATION, DEACTIVATION)}}
-    kept = {it: at for it, at in given.single.items() if it in (ALGORITHM, LENGTH, MASK)}
-    return Object(kind, Attributes(given.names, kept), dates, Secret(data), owner)
-
-
-def changed(found: Object, row: str, now: int) -> Object:
-    """What Activate, Revoke and Destroy leave of an object."""
-    state = found.state(now)
-    if row == "Activate":
-        return found.dated(now, ACTIVATION)
-    if row == "Revoke 2, 3":
-        return found if state in (COMPROMISED, DESTROYED_COMPROMISED) else found.dated(now, COMPROMISE)
-    if row == "Revoke":
-        return found.dated(now, DEACTIVATION) if state == ACTIVE else found
-    return found.dated(now, DESTROY, DEACTIVATION) if state == ACTIVE else found.dated(now, DESTROY)
+    def left_by(self, act: int, now: int) -> Object:
+        """What the success of an operation leaves of it."""
+        dates = [tag for tag, states in SETS.get(act, {}).items() if self.state(now) in states]
+        return replace(self, single={**self.single, **dict.fromkeys(dates, now)})
