@@ -3,6 +3,7 @@ them; and which tests `laboratory/test` runs."""
 
 from __future__ import annotations
 
+import functools
 import importlib
 import importlib.machinery
 import importlib.util
@@ -57,9 +58,9 @@ class Code(unittest.TestCase):
             self.assertIn(f"from {module} import {function}\n", (FOLDER / name).read_text("utf-8"))
 
 
-def runner() -> ModuleType:
-    """The program `laboratory/test`, as a module."""
-    loader = importlib.machinery.SourceFileLoader("laboratory_test", str(FOLDER / "test"))
+def runner(folder: Path = FOLDER) -> ModuleType:
+    """The program `laboratory/test`, or its copy in another folder, as a module."""
+    loader = importlib.machinery.SourceFileLoader("laboratory_test", str(folder / "test"))
     spec = importlib.util.spec_from_loader("laboratory_test", loader)
     assert spec is not None
     made = importlib.util.module_from_spec(spec)
@@ -88,6 +89,25 @@ class Runner(unittest.TestCase):
         there = vars(importlib.import_module(module)).values()
         return next(each for each in there if isinstance(each, type) and issubclass(each, unittest.TestCase)
                     and each.__module__ == module)
+
+    def test_a_file_that_breaks_down_is_a_failure_that_says_how(self) -> None:
+        for does, seconds, end in (("os._exit(3)", 600, "ended with status 3"),
+                                   ("os.kill(os.getpid(), 9)", 600, "was ended by SIGKILL"),
+                                   ("faulthandler._sigsegv()", 600, "was ended by SIGSEGV"),
+                                   ("subprocess.run(['sleep', '600'])", 3, "was ended, since it took 3 s")):
+            with self.subTest(does), tempfile.TemporaryDirectory() as name:
+                folder = Path(name)
+                (folder / "tests").mkdir()
+                shutil.copy(FOLDER / "test", folder)
+                (folder / "tests/test_made.py").write_text(
+                    "import faulthandler, os, subprocess, unittest\n\n\nclass Made(unittest.TestCase):\n"
+                    f"    def test_one(self) -> None:\n        {does}\n")
+                made = runner(folder)
+                run = functools.partial(made.run_apart, seconds=seconds)
+                with mock.patch.object(made, "run_apart", run), redirect_stdout(io.StringIO()) as told:
+                    self.assertEqual(made.run_all([]), 1)
+                last = f"\nlaboratory/test: test_made has no last line: its process {end}\n0 passed, 1 failed\n"
+                self.assertTrue(told.getvalue().endswith(last), told.getvalue())
 
     def test_packages_are_installed_only_where_that_is_asked(self) -> None:
         with tempfile.TemporaryDirectory() as folder:
