@@ -21,6 +21,14 @@ def need_tshark(test: Laboratory) -> None:
         test.skipTest("tshark is not there (Debian's package tshark)")
 
 
+def wait_until_it_rests(file: Path) -> None:
+    """Waits until a file has not grown for a while."""
+    seen, size = -1, file.stat().st_size
+    while size != seen:
+        time.sleep(SECONDS_FOR_LAST_PACKETS)
+        seen, size = size, file.stat().st_size
+
+
 @contextmanager
 def captured(test: Laboratory, port: int) -> Iterator[Path]:
     """Captures all packets of this port into the file that it gives, up to the end of the block."""
@@ -34,6 +42,6 @@ def captured(test: Laboratory, port: int) -> Iterator[Path]:
     if dumpcap.poll() is not None:
         test.skipTest(f"packets can't be captured here: {told.read_text().strip()}")
     yield capture
-    time.sleep(SECONDS_FOR_LAST_PACKETS)
+    wait_until_it_rests(capture)
     dumpcap.send_signal(signal.SIGINT)
     dumpcap.wait(SECONDS)

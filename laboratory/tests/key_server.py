@@ -4,23 +4,16 @@ from __future__ import annotations
 
 import os
 import signal
-import socket
 import subprocess
 from collections import defaultdict
 from pathlib import Path
 from typing import Iterator, Optional
 
 import messages
-from laboratory import PYKMIP_PYTHON, SECONDS, Begin, Laboratory, wait_until
+from laboratory import PYKMIP_PYTHON, SECONDS, Begin, Laboratory, free_port, wait_until
 
 HERE = Path(__file__).resolve().parent
 PYKMIP = HERE.parent / "pykmip"
-
-
-def free_port() -> int:
-    """A port that nothing listens at."""
-    with socket.create_server(("127.0.0.1", 0)) as listener:
-        return listener.getsockname()[1]
 
 
 def _end(server: subprocess.Popen) -> None:

@@ -5,6 +5,7 @@ from __future__ import annotations
 import contextlib
 import io
 import os
+import random
 import re
 import resource
 import signal
@@ -26,7 +27,10 @@ FOLDER = Path(__file__).resolve().parent.parent
 RECORDER = FOLDER / "kmip_record"
 AUDITOR = os.environ.get("KMIP_AUDIT", str(FOLDER.parent / "crates/kmip_audit/out/kmip_audit"))
 PYKMIP_PYTHON = os.environ.get("PYKMIP_PYTHON", "")
-SECONDS = 20
+# How long something is waited for that has to come: much longer than it takes, since the machine may do much else.
+SECONDS = 60
+# Ports from here up to those that the system gives to whoever asks for any.
+FIRST_PORT = 10_000
 
 sys.path.insert(0, str(FOLDER))
 
@@ -66,6 +70,16 @@ def audit(folder: Path, transcript: str = "transcript.ttlv", declaration: str = 
     done = subprocess.run([AUDITOR, "check", transcript, declaration, witness], cwd=folder, capture_output=True,
                           text=True, timeout=SECONDS * 3)
     return re.sub(r"^sealed: .*\n\Z", "", done.stdout, flags=re.MULTILINE)
+
+
+def free_port() -> int:
+    """A port that nothing listens at, and that the system gives to nobody who asks for any: it stays free so."""
+    given = Path("/proc/sys/net/ipv4/ip_local_port_range")
+    last = int(given.read_text().split()[0]) if given.exists() else 32_768
+    while True:
+        port = random.randrange(FIRST_PORT, last) if last > FIRST_PORT else 0
+        with contextlib.suppress(OSError), socket.create_server(("127.0.0.1", port)) as listener:
+            return int(listener.getsockname()[1])
 
 
 def wait_until(holds: Callable[[], object], what: str) -> None:
@@ -122,6 +136,15 @@ class Laboratory(unittest.TestCase):
         self.addCleanup(recorder.kill)
         return recorder
 
+    def patient(self) -> Path:
+        """A recorder that gives a handshake much longer than a client waits here: who is late because the machine does
+        much else is served, and who has to wait for a handshake that goes no further is not."""
+        program = self.folder / "patient"
+        program.write_text(f"import sys\nsys.path.insert(0, {str(FOLDER)!r})\nfrom kmip_laboratory import peer\n"
+                           f"peer.SECONDS_TO_GREET = {10 * SECONDS}\n"
+                           "from kmip_laboratory.recording.words import main\nsys.exit(main())\n")
+        return program
+
     def stub(self, answering: stub.Answering, **more: object) -> stub.Stub:
         """A server that answers as it is told."""
         made = stub.Stub(self.certificates, answering, **more)
@@ -130,8 +153,9 @@ class Laboratory(unittest.TestCase):
 
     def client(self, port: int, name: str = "client-1") -> ssl.SSLSocket:
         """A client's connection."""
-        plain = socket.create_connection(("127.0.0.1", port), timeout=SECONDS)
-        peer = stub.context(self.certificates, name, server_side=False).wrap_socket(plain)
+        context = stub.context(self.certificates, name, server_side=False)
+        # Who is connected speaks at once: who says nothing may have to go for others.
+        peer = context.wrap_socket(socket.create_connection(("127.0.0.1", port), timeout=SECONDS))
         self.addCleanup(peer.close)
         return peer
 
@@ -190,8 +214,11 @@ class Recorder:
         return line
 
     def status(self) -> Optional[int]:
-        """Its status, once it has ended."""
-        return self._process.poll()
+        """Its status, once it has ended, and all that it said was heard."""
+        status = self._process.poll()
+        if status is not None:
+            self._listening.join(SECONDS)
+        return status
 
     def kill(self) -> None:
         """Ends it at once."""

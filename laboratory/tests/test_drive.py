@@ -225,7 +225,7 @@ class Convictions(Laboratory):
     """The simulated server without a fault, and with some."""
 
     def calibration(self, **more: object) -> calibrate.Calibration:
-        scale = calibrate.Scale(**{"calls": 60, "budget": 3_000, **more})
+        scale = calibrate.Scale(**{"calls": 60, "budget": 3_000, "seconds": 600, **more})
         return calibrate.Calibration(Auditor(AUDITOR), scale, self.folder)
 
     def test_without_a_fault_it_is_yes(self) -> None:

@@ -505,11 +505,11 @@ class Group(InFolder):
         async def some() -> None:
             with mock.patch("kmip_laboratory.recording.heads.SECONDS_BETWEEN", 0.01):
                 telling = asyncio.ensure_future(heads.tell_each_minute(files))
-                await asyncio.sleep(0.3)
+                while files.tell_head.call_count < 2 and not telling.done():
+                    await asyncio.sleep(0.01)
                 telling.cancel()
 
-        asyncio.run(some())
-        self.assertGreater(len(settled), 1)
+        asyncio.run(asyncio.wait_for(some(), SECONDS))
         self.assertEqual(files.tell_head.call_args_list[:2], [mock.call("head 0"), mock.call("head 1")])
 
 

@@ -21,6 +21,8 @@ from kmip_laboratory.blinding import replacing
 from kmip_laboratory.blinding.leaks import Leaks
 
 STAMP = 1_700_000_000
+# How often a time is measured that is too long, since what else the machine does may have taken its caches.
+TRIES = 5
 KEY = bytes.fromhex("9f3c00e1275bd8640a7d25b2c6f81e43")
 HEX = [f"{byte:02x}" for byte in KEY]
 QUOTED = "".join(chr(byte) if 48 <= byte < 123 and byte != 92 else f"%{byte:02X}" for byte in KEY)
@@ -203,9 +205,14 @@ class Pieces(unittest.TestCase):
 
     def test_a_million_bytes_take_less_than_a_second(self) -> None:
         permutation, data = replacing.Bytes(bytes(32)), bytes(range(256)) * 4096
-        begun = time.thread_time()
-        made = permutation.of(data)
-        self.assertLess(time.thread_time() - begun, 1)
+        least = float("inf")
+        for _ in range(TRIES):
+            begun = time.thread_time()
+            made = permutation.of(data)
+            least = min(least, time.thread_time() - begun)
+            if least < 1:
+                break
+        self.assertLess(least, 1)
         self.assertEqual((len(made), made == data), (len(data), False))
 
     def test_the_permutation_is_a_network_of_ten_rounds(self) -> None:

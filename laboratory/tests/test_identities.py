@@ -38,7 +38,8 @@ class Identities(Laboratory):
     def test_each_client_is_shown_as_itself_and_the_others_as_the_recorder(self) -> None:
         words = ["--as", f"client-1={self.pair('client-1')}", "--as", f"client-2={self.pair('client-5')}"]
         self.assertEqual(self.shown(words, ["client-1", "client-2", "client-3"]), ["client-1", "client-5", "recorder"])
-        self.assertTrue(self.recorder.heard("client-3 has no certificate by --as: the server sees the recorder's"))
+        told = "client-3 has no certificate by --as: the server sees the recorder's"
+        wait_until(lambda: self.recorder.heard(told), "a word on the third")
 
     def test_clients_of_one_name_differ_in_the_marks(self) -> None:
         self.shown(["--as", f"client-1={self.pair('client-1')}"], ["client-1", "client-1"])

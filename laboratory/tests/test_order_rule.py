@@ -12,7 +12,7 @@ from pathlib import Path
 
 import messages
 import stub
-from laboratory import FOLDER, RECORDER, Laboratory, Limit, kinds
+from laboratory import FOLDER, RECORDER, SECONDS, Laboratory, Limit, kinds
 
 STAMP = 1_700_000_000
 # Of a sealed recording: its header, and the note on the client's connection.
@@ -40,7 +40,7 @@ class OrderRule(Laboratory):
             answer = messages.not_found(STAMP)
             peer.sendall(answer[:40])
             half.set()
-            rest.wait()
+            rest.wait(SECONDS)
             peer.sendall(answer[40:])
 
         server = self.stub(answering, first=lambda: seen.append(kinds(recorder.marks())))
@@ -51,7 +51,7 @@ class OrderRule(Laboratory):
         time.sleep(A_MOMENT)
         self.assertEqual((recorder.marks(), seen), ([], []), "half a request is neither marked nor given on")
         client.sendall(request[50:])
-        half.wait()
+        self.assertTrue(half.wait(SECONDS), "half an answer")
         time.sleep(A_MOMENT)
         self.assertEqual(seen, [[("begin", 1)]], "the server's first byte comes behind the begin mark")
         self.assertEqual(kinds(recorder.marks()), [("begin", 1)], "half an answer is not marked")

@@ -41,7 +41,7 @@ class ManyConnections(Laboratory):
             peer.sendall(messages.not_found(STAMP))
 
         server = self.stub(answering)
-        recorder = self.start(server.port)
+        recorder = self.start(server.port, program=self.patient())
         clients = [threading.Thread(target=self.ask, args=(recorder.port, n)) for n in range(CONNECTIONS)]
         for client in clients:
             client.start()

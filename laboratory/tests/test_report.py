@@ -443,14 +443,14 @@ class Report(unittest.TestCase):
 
     def test_the_auditor_is_given_a_time(self) -> None:
         program = self.folder / "slow"
-        program.write_text(f"#!/bin/sh\ncase \"$*\" in *slow/*) exec sleep 60;; esac\nexec {AUDITOR} \"$@\"\n")
+        program.write_text(f"#!/bin/sh\ncase \"$*\" in *slow/*) exec sleep 600;; esac\nexec {AUDITOR} \"$@\"\n")
         program.chmod(0o700)
         for name in ("slow", "quick"):
             shutil.copytree(EXAMPLES / "query", self.folder / "all" / name)
         with unittest.mock.patch.dict(os.environ, {"KMIP_AUDIT": str(program)}):
-            done = report("-", self.folder / "all", "--seconds", "0.3", "--text", "--junit", self.folder / "junit.xml")
+            done = report("-", self.folder / "all", "--seconds", "4", "--text", "--junit", self.folder / "junit.xml")
         self.assertEqual((done.returncode, done.stderr), (4, ""))
-        self.assertIn("the auditor gave no answer in 0.3 seconds", done.stdout)
+        self.assertIn("the auditor gave no answer in 4 seconds", done.stdout)
         self.assertIn("2 recordings: 1 yes, 1 not\n", done.stdout)
         self.assertEqual(ElementTree.parse(self.folder / "junit.xml").getroot().get("errors"), "1")
         self.assertEqual(report("-", EXAMPLES / "query", "--seconds", "0").returncode, 64)

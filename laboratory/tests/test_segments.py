@@ -10,7 +10,7 @@ from pathlib import Path
 
 import messages
 import stub
-from laboratory import InFolder, Laboratory, kinds, read_marks, run, wait_until
+from laboratory import SECONDS, InFolder, Laboratory, kinds, read_marks, run, wait_until
 from messages import begin, end
 
 STAMP = 1_700_000_000
@@ -115,10 +115,15 @@ class Segments(Laboratory):
         self.assertEqual(sum(path.stat().st_size for path in self.folder.glob("*-0*.ttlv")), int(last.split()[-2]))
 
     def overlapping(self, hold: str) -> tuple[float, list[list[tuple[str, int]]], list[str]]:
-        """How long a request was held while another call is under way for half a second, and what was recorded."""
+        """How long a request was held while another call is under way, and what was recorded. The other is answered
+        when the request has come to the server, or after half a second where it may be held for longer."""
+        quick_came = threading.Event()
+
         def answering(peer: stub.ssl.SSLSocket, request: bytes) -> None:
             if b"slow" in request:
-                time.sleep(0.5)
+                quick_came.wait(0.5 if int(hold) > 500 else SECONDS)
+            else:
+                quick_came.set()
             server.gave[request] = server.clock.tick()
             peer.sendall(messages.not_found(STAMP))
 
@@ -153,9 +158,9 @@ class Segments(Laboratory):
 
     def test_a_new_file_after_so_many_seconds(self) -> None:
         server = self.stub(lambda peer, _: peer.sendall(messages.not_found(STAMP)))
-        recorder = self.start(server.port, "--segment-seconds", "0.3")
+        recorder = self.start(server.port, "--segment-seconds", "1")
         client = self.client(recorder.port)
-        for pause in (0, 0.4):
+        for pause in (0, 1.1):
             threading.Event().wait(pause)
             client.sendall(messages.get("key-1"))
             stub.receive(client)

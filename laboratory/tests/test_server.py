@@ -12,7 +12,7 @@ from typing import Optional
 
 import messages
 import stub
-from laboratory import Laboratory, wait_until
+from laboratory import SECONDS, Laboratory, wait_until
 
 from kmip_laboratory import tls
 from kmip_laboratory.driving.engine import Engine, Steps
@@ -20,7 +20,7 @@ from kmip_laboratory.driving.messages import Request, Response
 from kmip_laboratory.driving.server import Server
 from kmip_laboratory.driving.store import Clock
 
-SECONDS_OF_A_WAIT = 0.4
+SECONDS_OF_A_WAIT = 2.0
 SIZE_OF_LARGE = 600_000
 ASKED_MORE_THAN_FITS = 12
 
@@ -88,14 +88,14 @@ class OnItsSocket(Laboratory):
         self.assertEqual(self.engine.done, ["k", "first", "second", "third"])
 
     def test_older_tls_is_spoken_too(self) -> None:
-        plain = socket.create_connection(("127.0.0.1", self.server.port), timeout=9)
+        plain = socket.create_connection(("127.0.0.1", self.server.port), timeout=SECONDS)
         client = stub.context(self.certificates, "client-2", False, newest=False).wrap_socket(plain)
         self.addCleanup(client.close)
         client.sendall(messages.get("k"))
         self.assertTrue(stub.receive(client))
 
     def test_who_says_nothing_holds_nobody_up(self) -> None:
-        silent = socket.create_connection(("127.0.0.1", self.server.port), timeout=9)
+        silent = socket.create_connection(("127.0.0.1", self.server.port), timeout=SECONDS)
         self.addCleanup(silent.close)
         half = self.reached()
         half.sendall(messages.get("half")[:40])
@@ -177,7 +177,7 @@ class OnItsSocket(Laboratory):
         self.server.close()
         self.assertEqual(stub.receive(client), b"")
         with self.assertRaises(OSError):
-            socket.create_connection(("127.0.0.1", self.server.port), timeout=9)
+            socket.create_connection(("127.0.0.1", self.server.port), timeout=SECONDS)
         self.server.close()
 
 

@@ -5,6 +5,7 @@ from __future__ import annotations
 import time
 import unittest
 from typing import Optional
+from unittest import mock
 
 import messages
 from laboratory import FOLDER  # noqa: F401 (puts the laboratory on the path)
@@ -242,11 +243,12 @@ class Races(unittest.TestCase):
         self.assertEqual(answers(server, named)[0].reason, Reason.NAME_NOT_UNIQUE)
 
     def test_answer_ahead_of_effect(self) -> None:
-        server = self.faulty("answer-ahead-of-effect")
-        self.assertEqual(answers(server, Ask(Operation.DESTROY, "k"))[0].status, Status.SUCCESS)
-        self.assertEqual(answers(server, Ask(Operation.GET, "k"))[0].status, Status.SUCCESS)
-        time.sleep(2 * races.SECONDS_OF_RACE)
-        self.assertEqual(answers(server, Ask(Operation.GET, "k"))[0].status, Status.FAILED)
+        server, now = self.faulty("answer-ahead-of-effect"), time.monotonic()
+        with mock.patch.object(races, "time", monotonic=lambda: now):
+            self.assertEqual(answers(server, Ask(Operation.DESTROY, "k"))[0].status, Status.SUCCESS)
+            self.assertEqual(answers(server, Ask(Operation.GET, "k"))[0].status, Status.SUCCESS)
+            now += races.SECONDS_OF_RACE
+            self.assertEqual(answers(server, Ask(Operation.GET, "k"))[0].status, Status.FAILED)
 
     def test_mixed_batches(self) -> None:
         server = self.faulty("mixed-batches")

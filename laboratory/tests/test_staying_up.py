@@ -9,9 +9,10 @@ import socket
 import ssl
 import subprocess
 import sys
-import threading
 import time
 import unittest
+from collections import Counter
+from concurrent.futures import ThreadPoolExecutor
 from contextlib import contextmanager
 from pathlib import Path
 from typing import Iterator
@@ -19,7 +20,7 @@ from unittest import mock
 
 import messages
 import stub
-from laboratory import RECORDER, SECONDS, Laboratory, Limit, wait_until
+from laboratory import RECORDER, SECONDS, Laboratory, Limit, free_port, wait_until
 from test_proxy import STAMP, at_once, never
 
 from kmip_laboratory import peer, tls
@@ -37,15 +38,20 @@ for _ in range(int(sys.argv[2])):
     made.append(socket.socket())
     made[-1].setblocking(False)
     made[-1].connect_ex(("127.0.0.1", int(sys.argv[1])))
+    if len(made) % 100 == 0:
+        # So that nobody else is the oldest who is kept from his first word for a moment.
+        time.sleep(0.05)
 for each in made if sys.argv[3] else []:
-    each.settimeout(20)
+    each.settimeout(60)
     try:
         each.sendall(HELLO)
     except OSError:
         pass
 print("all are there", flush=True)
-time.sleep(60)
+time.sleep(600)
 """
+# How many seconds a client may be idle: it says its first request within them, on a machine that does much else too.
+IDLE = "1.5"
 FILES = Limit(resource.RLIMIT_NOFILE, 1_024)
 
 
@@ -80,30 +86,25 @@ class Strangers(Laboratory):
             finally:
                 running.kill()
 
-    def asked(self, client: ssl.SSLSocket) -> float:
-        """How long a call takes."""
-        begun = time.monotonic()
+    def ask(self, client: ssl.SSLSocket) -> None:
+        """A call, which is answered ahead of the client's limit."""
         client.sendall(messages.get("key-1"))
         self.assertEqual(stub.receive(client), messages.not_found(STAMP))
-        return time.monotonic() - begun
 
     def test_many_without_a_certificate_refuse_nobody_and_hold_nobody_up(self) -> None:
-        # Who had to wait for one of them would wait this twice; a machine that does much else takes a second or two for a handshake.
-        limit = peer.SECONDS_TO_GREET / 2
         for speaks in (False, True):
             with self.subTest(speaks=speaks):
-                recorder = self.start(self.stub(at_once).port, limit=None if speaks else FILES)
+                recorder = self.start(self.stub(at_once).port, program=self.patient(), limit=None if speaks else FILES)
                 known, calls = self.client(recorder.port), 0
                 with self.strangers(recorder.port, speaks):
                     end = time.monotonic() + 1.5
                     while time.monotonic() < end:
-                        self.assertLess(self.asked(known), limit)
-                        begun = time.monotonic()
-                        self.asked(self.client(recorder.port, "client-2"))
-                        self.assertLess(time.monotonic() - begun, limit)
+                        self.ask(known)
+                        self.ask(self.client(recorder.port, "client-2"))
                         calls += 2
                     wait_until(lambda: recorder.heard("connections that showed no certificate had to go for others"), "a word")
-                    calls += self.asked(known) < limit
+                    self.ask(known)
+                    calls += 1
                 self.assertTrue(recorder.end().startswith(f"{calls} calls, 0 open calls, "))
                 recorder.transcript.unlink()
 
@@ -152,8 +153,12 @@ class Known(Laboratory):
     """Clients that have shown one."""
 
     def answered(self, port: int, name: str) -> bytes:
+        """What one more connection of this client gets, which stays open; nothing where it is refused."""
         client = self.client(port, name)
-        client.sendall(messages.get("key-1"))
+        try:
+            client.sendall(messages.get("key-1"))
+        except OSError:
+            return b""
         return stub.receive(client)
 
     def test_a_client_has_so_many_connections_and_no_more(self) -> None:
@@ -169,57 +174,51 @@ class Known(Laboratory):
         wait_until(lambda: self.answered(recorder.port, "client-1"), "room for one more")
 
     def test_so_many_at_once_leave_others_theirs(self) -> None:
-        recorder = self.start(self.stub(at_once).port, "--connections", "10")
-        held, answers = [], []
-
-        def ask() -> None:
-            held.append(self.client(recorder.port))
-            held[-1].sendall(messages.get("key-1"))
-            answers.append(stub.receive(held[-1]))
-
-        asking = [threading.Thread(target=ask) for _ in range(40)]
-        for each in asking:
-            each.start()
-        self.assertEqual(self.answered(recorder.port, "client-2"), messages.not_found(STAMP))
-        for each in asking:
-            each.join(SECONDS)
-        answered = answers.count(messages.not_found(STAMP))
-        self.assertEqual(answered + answers.count(b""), 40)
-        self.assertTrue(1 <= answered <= 10, answered)
+        recorder = self.start(self.stub(at_once).port, "--connections", "10", program=self.patient())
+        # Each has a connection for itself, since OpenSSL breaks down where two threads use one, and holds it to the end.
+        with ThreadPoolExecutor(40) as pool:
+            asking = [pool.submit(self.answered, recorder.port, "client-1") for _ in range(40)]
+            other = self.answered(recorder.port, "client-2")
+            answers = Counter(each.result() for each in asking)
+        self.assertEqual(other, messages.not_found(STAMP), recorder.said)
+        self.assertEqual(answers, {messages.not_found(STAMP): 10, b"": 30}, recorder.said)
 
     def test_a_client_that_asks_nothing_has_to_go(self) -> None:
         server = self.stub(at_once)
-        recorder = self.start(server.port, "--idle", "0.4")
+        recorder = self.start(server.port, "--idle", IDLE)
         for sent in (b"", messages.get("key-1")[:-1]):
             client = self.client(recorder.port)
             client.sendall(messages.get("key-1") + sent)
             self.assertEqual(stub.receive(client), messages.not_found(STAMP))
             self.assertEqual(stub.receive(client), b"")
-        wait_until(lambda: sum("client-1: no whole request came in 0.4 s" in line for line in recorder.said) == 2, "words")
+        told = f"client-1: no whole request came in {IDLE} s"
+        wait_until(lambda: sum(told in line for line in recorder.said) == 2, "words")
         self.assertTrue(recorder.end().startswith("2 calls, 0 open calls, "))
 
     def test_a_call_under_way_is_not_idle(self) -> None:
         def answering(client: stub.ssl.SSLSocket, request: bytes) -> None:
-            time.sleep(0.8)
+            time.sleep(2 * float(IDLE))
             at_once(client, request)
 
-        recorder = self.start(self.stub(answering).port, "--idle", "0.4")
+        recorder = self.start(self.stub(answering).port, "--idle", IDLE)
         self.assertEqual(self.answered(recorder.port, "client-1"), messages.not_found(STAMP))
 
     def test_a_client_that_does_not_take_its_answer_has_to_go(self) -> None:
         long = messages.not_found(STAMP, text="x" * 1_000_000)
-        recorder = self.start(self.stub(lambda client, _: client.sendall(long)).port, "--idle", "0.4")
+        recorder = self.start(self.stub(lambda client, _: client.sendall(long)).port, "--idle", IDLE)
         client = self.client(recorder.port)
         client.setsockopt(socket.SOL_SOCKET, socket.SO_RCVBUF, 4096)
         for turn in range(20):
             client.sendall(messages.get(f"key-{turn}"))
-        wait_until(lambda: recorder.heard("client-1: the client did not take a whole message in 0.4 s"), "a word")
+        wait_until(lambda: recorder.heard(f"client-1: the client did not take a whole message in {IDLE} s"), "a word")
 
     def test_a_server_that_answers_nothing_is_waited_for(self) -> None:
-        recorder = self.start(self.stub(never).port, "--idle", "0.2")
+        server = self.stub(never)
+        recorder = self.start(server.port, "--idle", IDLE)
         client = self.client(recorder.port)
         client.sendall(messages.get("key-1"))
-        time.sleep(0.8)
+        wait_until(lambda: server.got, "the request at the server")
+        time.sleep(2 * float(IDLE))
         self.assertFalse(recorder.heard("client-1"), "the call is the server's, and not idle")
 
 
@@ -228,8 +227,7 @@ class StandardError(Laboratory):
 
     def recorder(self, error: object) -> subprocess.Popen[str]:
         """A recorder that tells things there; its port is found by its listening."""
-        with socket.create_server(("127.0.0.1", 0)) as free:
-            self.port = free.getsockname()[1]
+        self.port = free_port()
         words = ["proxy", "--listen", f"127.0.0.1:{self.port}", "--server", f"127.0.0.1:{self.stub(at_once).port}",
                  "--cert", "recorder.pem", "--key", "recorder.key", "--client-ca", "authority.pem", "--out",
                  str(self.folder / "transcript.ttlv")]

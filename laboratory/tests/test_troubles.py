@@ -10,7 +10,7 @@ import unittest
 from pathlib import Path
 
 import certificates
-from laboratory import InFolder, Laboratory, run, run_apart
+from laboratory import InFolder, Laboratory, free_port, run, run_apart
 from test_proxy import at_once
 
 
@@ -55,8 +55,7 @@ class Troubles(Laboratory):
         self.assertIn("nothing can listen at 192.0.2.1:5696", self.proxy(1, listen="192.0.2.1:5696"))
 
     def test_a_server_that_is_not_there(self) -> None:
-        with socket.create_server(("127.0.0.1", 0)) as free:
-            port = free.getsockname()[1]
+        port = free_port()
         self.assertIn(f"no server at 127.0.0.1:{port}: ", self.proxy(port))
         self.assertFalse((self.folder / "transcript.ttlv").exists(), "so that the same words serve again")
 
