@@ -18,7 +18,10 @@ from kmip_package import completions, contents, repository, statement
 
 C_LIBRARY = {"linux-vdso.so.1", "libc.so.6", "libm.so.6", "ld-linux-x86-64.so.2"}
 MOST_MILLISECONDS = 5
-STARTS = 50
+# How often it is started at most until one start is so quick: a machine that does much else takes now and then more.
+STARTS = 1_000
+# How many seconds zsh's completion is waited for.
+SECONDS_TO_COMPLETE = (2, 10, 30)
 # Documents that speak of the repository itself.
 OF_DEVELOPERS = ("ADDING", "CHANGES", "CONTRIBUTING", "DECISIONS", "MAP", "PROOFS", "SPEED", "TESTS")
 OF_LABORATORY = re.compile(r"`laboratory/([\w./-]*)")
@@ -36,7 +39,7 @@ zpty asked zsh -f -i
 zpty -w asked "PS1=; fpath=($1 \\$fpath); autoload -U compinit; compinit -u -D; echo ready"
 zpty -r asked line '*ready*ready*'
 zpty -w -n asked "$2"$'\\t\\t'
-sleep 2
+sleep $3
 while zpty -r -t asked line; do print -r -- "$line"; done
 zpty -d asked
 """
@@ -188,9 +191,12 @@ class InTheArchive(unittest.TestCase):
         folder = self.top / "share/zsh/site-functions"
         for typed, wanted in (("kmip_record pro", "proxy"), ("kmip_audit search --bud", "--budget"),
                               ("kmip_drive simulate --fault lost-reg", "lost-register")):
-            done = run("zsh", "-f", "-c", ASK_ZSH, "zsh", folder, typed)
+            shown = ""
+            for seconds in SECONDS_TO_COMPLETE:
+                if wanted not in shown:
+                    shown = run("zsh", "-f", "-c", ASK_ZSH, "zsh", folder, typed, str(seconds)).stdout
             with self.subTest(typed=typed):
-                self.assertIn(wanted, done.stdout)
+                self.assertIn(wanted, shown)
 
 
 class Needs(unittest.TestCase):
@@ -203,8 +209,8 @@ class Needs(unittest.TestCase):
         self.assertLessEqual(needed, C_LIBRARY, told)
 
     def test_it_starts_at_once(self) -> None:
-        best = min(self._milliseconds() for _ in range(STARTS))
-        self.assertLess(best, MOST_MILLISECONDS)
+        is_quick = any(self._milliseconds() < MOST_MILLISECONDS for _ in range(STARTS))
+        self.assertTrue(is_quick, f"no start of {STARTS} took less than {MOST_MILLISECONDS} ms")
 
     def _milliseconds(self) -> float:
         with open(os.devnull, "wb") as nowhere:
