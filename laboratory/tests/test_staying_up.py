@@ -125,28 +125,31 @@ class Strangers(Laboratory):
                 asyncio.run(accept(ours))
             self.assertEqual(ours.fileno(), -1, "it is closed")
 
-    def test_who_has_said_nothing_goes_ahead_of_who_is_in_the_handshake(self) -> None:
-        async def some() -> list[str]:
+    def test_the_oldest_of_the_sort_goes_of_which_there_are_more(self) -> None:
+        async def some(speak: str) -> str:
             admission, left = Admission(1), []
 
-            async def unknown(name: str, speaks: bool) -> None:
+            async def unknown(place: int, speaks: bool) -> None:
                 with admission.unknown() as spoke:
                     if speaks:
                         spoke()
                     try:
                         await asyncio.sleep(60)
                     except asyncio.CancelledError:
-                        left.append(name)
+                        left.append(str(place))
 
-            tasks = [asyncio.ensure_future(unknown(f"{place}", place % 2 == 0)) for place in range(5)]
+            tasks = [asyncio.ensure_future(unknown(place, word == "s")) for place, word in enumerate(speak)]
             await asyncio.sleep(0.01)
-            for _ in range(6):
+            for _ in range(len(speak) + 1):
                 admission.drop_oldest()
                 await asyncio.sleep(0.01)
             await asyncio.gather(*tasks)
-            return left
+            return "".join(left)
 
-        self.assertEqual(asyncio.run(some()), ["1", "3", "0", "2", "4"])
+        # s has begun its handshake, - has said nothing: who has just come stays among many in the handshake, and the other way about.
+        self.assertEqual(asyncio.run(some("ssss-")), "01243")
+        self.assertEqual(asyncio.run(some("s----")), "12340")
+        self.assertEqual(asyncio.run(some("s-s-s")), "01234")
 
 
 class Known(Laboratory):

@@ -30,7 +30,7 @@ class Admission:
     @contextmanager
     def unknown(self) -> Iterator[Callable[[], None]]:
         """While the client of this task has shown no certificate; it gives what is to be called when the client has
-        said anything. Where too many are so, the oldest one has to go, and of those that said nothing first."""
+        said anything. Where too many are so, the oldest one of those has to go of whom there are more."""
         task = asyncio.current_task()
         assert task is not None
         if len(self._silent) + len(self._shaking) >= self._most_unknown:
@@ -49,8 +49,9 @@ class Admission:
             self._shaking[task] = None
 
     def drop_oldest(self) -> None:
-        """Ends the connection that has been without a certificate for longest."""
-        unknown = self._silent or self._shaking
+        """Ends one connection that has shown no certificate: the oldest of those that said nothing, or of those in the handshake, of
+        whichever there are more. So whoever comes between many of one sort stays, and is not the only one of the other."""
+        unknown = self._shaking if len(self._shaking) > len(self._silent) else self._silent
         oldest = next(iter(unknown), None)
         if oldest is None:
             return
