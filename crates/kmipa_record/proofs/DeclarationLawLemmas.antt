@@ -1,5 +1,5 @@
 -- Bytes are one declaration, or have one first fault.
-use Rattle.std.proofs.Common.{◌≡◌, ℕ, ℤ, List, [], ◌∷◌, ◌++◌, Option, Some, None, Bool, refl, sym, ap, subst, ◌∙◌, arith}
+use Rattle.std.proofs.Common.{◌≡◌, ℕ, ℤ, List, [], ◌∷◌, ◌++◌, Option, Some, Bool, refl, sym, ap, subst, ◌∙◌, arith}
 use Rattle.kmipa_ttlv.specs.Tree.{Tree}
 use Rattle.kmipa_attrs.specs.Fields.{tag_of}
 use Rattle.kmipa_object.specs.Allowances.{act_number, act_of, allow_number, allow_of, state_numbered}

@@ -1,13 +1,13 @@
 -- A declaration that is read record by record.
-use Rattle.std.proofs.Common.{◌≡◌, ◌≢◌, ℕ, List, [], ◌∷◌, ◌++◌, length, get_or, Bool, inl, inr, refl, sym, ap, subst, ◌∙◌, arith}
+use Rattle.std.proofs.Common.{◌≡◌, ◌≢◌, ℕ, List, [], ◌∷◌, ◌++◌, length, Bool, inl, inr, refl, sym, ap, subst, ◌∙◌, arith}
 use Rattle.std.proofs.lemmas.List.{append-nil}
 use Rattle.std.proofs.lemmas.List.Elements.{All-push}
 use Rattle.std.proofs.lemmas.List.Quantifiers.{all_pairs_push}
 use Rattle.std.specs.Io.{StartsWith, appended_bytes}
 use Rattle.kmipa_ttlv.specs.Tree.{Tree}
-use Rattle.kmipa_record.specs.DeclarationReading.{SaysFit, IsRecord, IsAdmitted, IsRefused, inadmissible, behind, IsReadSoFar, HasRead}
+use Rattle.kmipa_record.specs.DeclarationReading.{SaysFit, IsRecord, IsRefused, inadmissible, behind, IsReadSoFar, HasRead}
 use Rattle.kmipa_record.specs.DeclarationRecords.{RecordOf, row, allow, own, entry, aside, IsFit, row_item, aside_item}
-use Rattle.kmipa_record.specs.Declarations.{DeclarationOf, AreDeclared, nothing_declared, with_record, MayFollow, IsHeader, IsRecordUnder, Follow, SayDeclaration, IsDeclarationWithin, AreRightInDeclaration, RecordItemFault, no_record, misplaced, misplaced_kind, DeclarationItemFault, DeclarationEndFault, DeclarationFaultWithin, IsDeclarationUpToWithin}
+use Rattle.kmipa_record.specs.Declarations.{Admits, DeclarationOf, AreDeclared, nothing_declared, with_record, MayFollow, IsHeader, IsRecordUnder, Follow, SayDeclaration, IsDeclarationWithin, AreRightInDeclaration, RecordItemFault, no_record, misplaced, misplaced_kind, DeclarationItemFault, DeclarationEndFault, DeclarationFaultWithin, IsDeclarationUpToWithin}
 use Rattle.kmipa_record.specs.Entries.{EntryOf, SaysEntry, IsDeclarable}
 use Rattle.kmipa_record.specs.Lines.{allow_line_item, own_line_item, IsMovable}
 use Rattle.kmipa_msgs.specs.Messages.{RowOf}
@@ -15,9 +15,9 @@ use Rattle.kmipa_object.specs.declared.allow.AllowLine.{AllowLine}
 use Rattle.kmipa_record.specs.declared.own_attribute.OwnAttribute.{OwnAttribute}
 use Rattle.kmipa_record.specs.Files.{Tells}
 use Rattle.kmipa_record.specs.Reaches.{ReachesSettings}
-use Rattle.kmipa_record.specs.Reading.{Takes, ReadFails, HeaderFault, other, HeaderFails}
+use Rattle.kmipa_record.specs.Reading.{Takes, ReadFails, other, HeaderFails}
 use Rattle.kmipa_record.specs.Settings.{declaration_header, MayHave}
-use Rattle.kmipa_record.specs.Taking.{HasTaken, Refuses}
+use Rattle.kmipa_record.specs.Taking.{HasTaken}
 use Rattle.kmipa_record.specs.declared.declaration_header.DeclarationHeader.{DeclarationHeader}
 use Rattle.kmipa_record.specs.declared.fault.RecordFault.{RecordFault}
 use Rattle.kmipa_record.specs.declared.fault.RecordKind.{RecordKind}
@@ -134,12 +134,12 @@ module _ (reach : Reach) where
         told_as file failed place kind Entry k (record_reported file declared item left after place place' Entry s t (no_record none refl))
       where
         none : (q : RecordOf) → ¬ (IsRecordUnder reach h item q)
-        none q u = far (subst (IsAdmitted reach h) (record_once item q r u.says says.says) (record { admitted = u.admitted; reached = u.reached }))
+        none q u = far (subst (Admits reach h) (record_once item q r u.says says.says) u.admitted)
     refused_reported file declared r item left after place place' failed kind s t says (behind near (inl m)) =
         told_as file failed place kind Memory m (right_here (AreRightInDeclaration reach) file (items_of s.items) left place (stands file declared left place s))
     refused_reported file declared r item left after place place' failed kind s t says (behind near (inr x)) =
         told_as file failed place kind (misplaced_kind r) x.0 (told_misplaced file failed place r (record_reported file declared item left after place place' (misplaced_kind r) s t
-        (misplaced r (record { says = says.says; fit = says.fit; admitted = near.admitted; reached = near.reached }) x.1 refl)))
+        (misplaced r (record { says = says.says; fit = says.fit; admitted = near }) x.1 refl)))
 
     -- one more record
     follow_more : (items : List Tree) (item : Tree) (r : RecordOf) (ahead declared : DeclarationOf) → Follow reach h ahead items declared → IsRecordUnder reach h item r → MayFollow declared r
@@ -149,12 +149,12 @@ module _ (reach : Reach) where
     follow_more (i ∷ items) item r ahead declared f u may = (f.0, f.1, f.2, follow_more items item r (with_record ahead f.0) declared f.3 u may)
 
     pub record_taken : (file : List ℕ) (d : DeclarationOf) (r : RecordOf) (item : Tree) (left after : List ℕ) (place place' : ℕ) → Takes item left after place place'
-        → SaysFit item r → IsAdmitted reach h r → MayFollow d r → IsReadSoFar reach h file d left place → IsReadSoFar reach h file (with_record d r) after place'
+        → SaysFit item r → Admits reach h r → MayFollow d r → IsReadSoFar reach h file d left place → IsReadSoFar reach h file (with_record d r) after place'
     record_taken file d r item left after place place' t says near may s = record {
       header = s.header;
       items = s.items ++ item ∷ [];
       reading = goes_on file (items_of s.items) item left after place place' t s.reading;
-      follow = follow_more s.items item r (nothing_declared h.settings) d s.follow (record { says = says.says; fit = says.fit; admitted = near.admitted; reached = near.reached }) may;
+      follow = follow_more s.items item r (nothing_declared h.settings) d s.follow (record { says = says.says; fit = says.fit; admitted = near }) may;
     }
 
     -- ---- what came
@@ -193,7 +193,7 @@ module _ (reach : Reach) where
       -- one record more
       pub read_more : (taker : T) (r : RecordOf) → (has : HasRead reach h holds old taker) → StartsWith new old
           → ((left after : List ℕ) → left ≡ appended_bytes old new ++ after → (item : Tree) × Takes item left after (length old) (length new) × SaysFit item r)
-          → (taker' : T) → IsAdmitted reach h r → MayFollow has.declared r → holds taker' (with_record has.declared r) → HasRead reach h holds new taker'
+          → (taker' : T) → Admits reach h r → MayFollow has.declared r → holds taker' (with_record has.declared r) → HasRead reach h holds new taker'
       read_more taker r has grows one taker' near follows held = record {
         declared = with_record has.declared r;
         named = has.named;

@@ -24,15 +24,14 @@ use Rattle.kmipa_attrs.specs.Writing.{short_name, with_scalars, single_rows, enu
 use Rattle.kmipa_attrs.proofs.ShortLemmas.{short_least, short_plain}
 use Rattle.kmipa_attrs.proofs.WriteLemmas.{short_said, once-same, said-HasNoRepeats}
 use Rattle.kmipa_object.specs.declared.allow.AllowLine.{AllowLine}
-use Rattle.kmipa_msgs.specs.declared.rules.Unjudged.TheVariants as unjudged
 use Rattle.kmipa_record.specs.DeclarationRecords.{RecordOf, row, allow, own, entry, aside, row_item, aside_item}
 use Rattle.kmipa_record.specs.Declarations.{DeclarationOf, nothing_declared, with_record, MayFollow, IsHeader, IsRecordUnder, Follow, IsDeclarationWithin}
-use Rattle.kmipa_record.specs.DeclarationWriting.{AreSayable, MayStand, AreLines, AreOwn, AreDistinct, ids_of, MayStandTogether, MayBeDeclared, IsWritableDeclaration, IsLowestHeader, written_records, AreNoted}
+use Rattle.kmipa_record.specs.DeclarationWriting.{AreSayable, MayStand, AreLines, AreOwn, AreDistinct, ids_of, MayStandTogether, MayBeDeclared, IsWritableDeclaration, IsLowestHeader, written_records}
 use Rattle.kmipa_record.specs.Entries.{EntryOf, entry_of, listed_tags, is_listed, AreListed, material, ownership, SaysEntry, written_entry}
 use Rattle.kmipa_record.specs.Lines.{allow_line_item, own_line_item, IsMovable, AreOfOneCell}
-use Rattle.kmipa_record.specs.Reaches.{ReachesSettings, ReachesRecord}
+use Rattle.kmipa_record.specs.Reaches.{ReachesSettings, ReachesAsides}
 use Rattle.kmipa_record.specs.Settings.{declaration_header, MayHave, IsTolerance, plain_settings}
-use Rattle.kmipa_record.specs.Writing.{Appends, IsWrittenDeclarationWithin, IsPlain, Unwritten, no_memory, no_file, AddsAll, Refused, starved, refused}
+use Rattle.kmipa_record.specs.Writing.{Appends, IsWrittenDeclarationWithin, Unwritten, no_memory, no_file, AddsAll, Refused, starved, refused}
 use Rattle.kmipa_record.specs.declared.declaration_header.DeclarationHeader.{DeclarationHeader}
 use Rattle.kmipa_record.specs.declared.declaration_version.DeclarationVersion.{DeclarationVersion}
 use Rattle.kmipa_record.specs.declared.declaration_version.DeclarationVersion.TheVariants.{First, Second}
@@ -40,10 +39,9 @@ use Rattle.kmipa_record.specs.declared.entry.Entry.{Entry}
 use Rattle.kmipa_record.specs.declared.fault.RecordKind.{RecordKind}
 use Rattle.kmipa_record.specs.declared.own_attribute.OwnAttribute.{OwnAttribute}
 use Rattle.kmipa_record.specs.declared.reach.Reach.{Reach}
-use Rattle.kmipa_record.specs.declared.reach.Reach.TheVariants.{Judged, Whole}
 use Rattle.kmipa_record.specs.declared.settings.Settings.{Settings}
 use Rattle.kmipa_record.proofs.RecordsLemmas.{same_bytes}
-use Rattle.kmipa_record.proofs.PairLemmas.{all_left, all_right, no_pairs, pairs_append, pairs_left, pairs_right, pairs_across, pairs_with, mapped_all, unmapped_all, mapped_pairs, unmapped_pairs}
+use Rattle.kmipa_record.proofs.PairLemmas.{all_right, no_pairs, pairs_append, pairs_left, pairs_right, pairs_across, pairs_with, mapped_all, unmapped_all, mapped_pairs, unmapped_pairs}
 use Rattle.kmipa_record.proofs.WritingLemmas.{one_of, begins_spelled}
 
 -- ---- attributes that are listed
@@ -212,18 +210,18 @@ head_legal t ts all = one_of (Legal 16) (t ∷ ts) [] ts t refl all
 record IsGood (reach : Reach) (h : DeclarationHeader) (d : DeclarationOf) : Type 0 where
   named : d.settings ≡ h.settings
   lines : AreLines d.allow_lines
-  own : AreOwn reach d.own_attributes
+  own : AreOwn d.own_attributes
   are : AreApart d.entries d.asides
   sayable : All MayStand d.entries
   entries : All (λ (e : EntryOf). Legal 16 (written_entry e)) d.entries
   asides : All (λ (id : List ℕ). Legal 16 (aside_item id)) d.asides
-  aside : d.asides ≢ [] → h.settings.unjudged ≢ unjudged.Refused
+  aside : d.asides ≢ [] → ReachesAsides reach h.settings
 
 good_none : (reach : Reach) (h : DeclarationHeader) → IsGood reach h (nothing_declared h.settings)
 good_none reach h = record {
   named = refl;
   lines = record { each = All-nil IsMovable; distinct = no_pairs (λ (a b : AllowLine). ¬ (AreOfOneCell a b)) };
-  own = record { each = All-nil (λ (a : OwnAttribute). ReachesRecord reach (own a)); distinct = no_pairs (λ (a b : OwnAttribute). a ≢ b) };
+  own = no_pairs (λ (a b : OwnAttribute). a ≢ b);
   are = none_apart;
   sayable = All-nil MayStand;
   entries = All-nil (λ (e : EntryOf). Legal 16 (written_entry e));
@@ -248,10 +246,7 @@ module _ (reach : Reach) (h : DeclarationHeader) where
   good_more d (own a) item g u may legal = record {
     named = g.named;
     lines = g.lines;
-    own = record {
-      each = All-push (λ (x : OwnAttribute). ReachesRecord reach (own x)) d.own_attributes a g.own.each u.reached;
-      distinct = all_pairs_push (λ (x y : OwnAttribute). x ≢ y) d.own_attributes a g.own.distinct may.1;
-    };
+    own = all_pairs_push (λ (x y : OwnAttribute). x ≢ y) d.own_attributes a g.own may.1;
     are = g.are;
     sayable = g.sayable;
     entries = g.entries;
@@ -297,7 +292,7 @@ writable reach bytes d is =
         settings = record {
           tolerance = subst (λ (s : Settings). IsTolerance s.tolerance) (sym g.named) (tolerable h.version h.settings is.say.header_is.may);
           reached = subst (ReachesSettings reach) (sym g.named) is.say.header_is.reached;
-          aside = subst (λ (s : Settings). d.asides ≢ [] → s.unjudged ≢ unjudged.Refused) (sym g.named) g.aside;
+          aside = subst (λ (s : Settings). d.asides ≢ [] → ReachesAsides reach s) (sym g.named) g.aside;
         };
         lines = g.lines;
         own = g.own;
@@ -317,28 +312,12 @@ unwritten reach declared kind (refused k n) = no_file refl k (λ bytes d. n (wri
 abbrev of : Settings → List RowOf → List AllowLine → List OwnAttribute → List EntryOf → List (List ℕ) → DeclarationOf
 of s rows lines attributes entries asides = record { settings = s; rows = rows; allow_lines = lines; own_attributes = attributes; entries = entries; asides = asides }
 
-reached_row : (reach : Reach) (r : RowOf) → ReachesRecord reach (row r)
-reached_row Judged r = tt
-reached_row Whole r = tt
-
-reached_line : (reach : Reach) (l : AllowLine) → ReachesRecord reach (allow l)
-reached_line Judged l = tt
-reached_line Whole l = tt
-
-reached_entry : (reach : Reach) (e : EntryOf) → ReachesRecord reach (entry e)
-reached_entry Judged e = tt
-reached_entry Whole e = tt
-
-reached_aside : (reach : Reach) (id : List ℕ) → ReachesRecord reach (aside id)
-reached_aside Judged id = tt
-reached_aside Whole id = tt
-
 module _ (reach : Reach) (h : DeclarationHeader) (s : Settings) where
   follow_rows : (rs rows : List RowOf) (rest : List Tree) (e : DeclarationOf) → Follow reach h (of s (rows ++ rs) [] [] [] []) rest e → Follow reach h (of s rows [] [] [] []) (map row_item rs ++ rest) e
   follow_rows [] rows rest e f = subst (λ (l : List RowOf). Follow reach h (of s l [] [] [] []) rest e) (append-nil rows) f
   follow_rows (r ∷ rs) rows rest e f = (
     row r,
-    record { says = refl; fit = tt; admitted = tt; reached = reached_row reach r },
+    record { says = refl; fit = tt; admitted = tt },
     (refl, refl, (refl, refl)),
     follow_rows rs (rows ++ r ∷ []) rest e (subst (λ (l : List RowOf). Follow reach h (of s l [] [] [] []) rest e) (sym (append_assoc rows (r ∷ []) rs)) f),
   )
@@ -349,20 +328,20 @@ module _ (reach : Reach) (h : DeclarationHeader) (s : Settings) where
   follow_lines (l ∷ ls) rows lines rest e v are f =
       let again = sym (append_assoc lines (l ∷ []) ls) in (
         allow l,
-        record { says = refl; fit = all_right IsMovable lines (l ∷ ls) are.each 0 l (omega arith); admitted = v 0 l (omega arith); reached = reached_line reach l },
+        record { says = refl; fit = all_right IsMovable lines (l ∷ ls) are.each 0 l (omega arith); admitted = v 0 l (omega arith) },
         (refl, (refl, refl), pairs_with (λ (a b : AllowLine). ¬ (AreOfOneCell a b)) lines ls l are.distinct),
         follow_lines ls rows (lines ++ l ∷ []) rest e (All-tail (λ _. h.version ≡ Second) l ls v) (subst AreLines again are) (subst (λ (x : List AllowLine). Follow reach h (of s rows x [] [] []) rest e) again f),
       )
 
-  follow_own : (given : List OwnAttribute) (rows : List RowOf) (lines : List AllowLine) (own' : List OwnAttribute) (rest : List Tree) (e : DeclarationOf) → All (λ _. h.version ≡ Second) given → AreOwn reach (own' ++ given)
+  follow_own : (given : List OwnAttribute) (rows : List RowOf) (lines : List AllowLine) (own' : List OwnAttribute) (rest : List Tree) (e : DeclarationOf) → All (λ _. h.version ≡ Second) given → AreOwn (own' ++ given)
       → Follow reach h (of s rows lines (own' ++ given) [] []) rest e → Follow reach h (of s rows lines own' [] []) (map own_line_item given ++ rest) e
   follow_own [] rows lines own' rest e v are f = subst (λ (l : List OwnAttribute). Follow reach h (of s rows lines l [] []) rest e) (append-nil own') f
   follow_own (a ∷ given) rows lines own' rest e v are f =
       let again = sym (append_assoc own' (a ∷ []) given) in (
         own a,
-        record { says = refl; fit = tt; admitted = v 0 a (omega arith); reached = all_right (λ (x : OwnAttribute). ReachesRecord reach (own x)) own' (a ∷ given) are.each 0 a (omega arith) },
-        ((refl, refl), pairs_with (λ (x y : OwnAttribute). x ≢ y) own' given a are.distinct),
-        follow_own given rows lines (own' ++ a ∷ []) rest e (All-tail (λ _. h.version ≡ Second) a given v) (subst (AreOwn reach) again are) (subst (λ (x : List OwnAttribute). Follow reach h (of s rows lines x [] []) rest e) again f),
+        record { says = refl; fit = tt; admitted = v 0 a (omega arith) },
+        ((refl, refl), pairs_with (λ (x y : OwnAttribute). x ≢ y) own' given a are),
+        follow_own given rows lines (own' ++ a ∷ []) rest e (All-tail (λ _. h.version ≡ Second) a given v) (subst AreOwn again are) (subst (λ (x : List OwnAttribute). Follow reach h (of s rows lines x [] []) rest e) again f),
       )
 
   abbrev Fits : EntryOf → Type 0
@@ -377,21 +356,21 @@ module _ (reach : Reach) (h : DeclarationHeader) (s : Settings) where
       let R : EntryOf → EntryOf → Type 0 = λ a b. a.id ≢ b.id in
       let one = fits 0 x (omega arith) in (
         entry x,
-        record { says = says_written x one.0.sayable; fit = one.0.declarable; admitted = one.1; reached = reached_entry reach x },
+        record { says = says_written x one.0.sayable; fit = one.0.declarable; admitted = one.1 },
         (pairs_with R entries es x p, λ k d lt. absurd (omega (arith, lt))),
         follow_entries es rows lines own' (entries ++ x ∷ []) rest e (All-tail Fits x es fits) (subst (AllPairs R) again p) (subst (λ (l : List EntryOf). Follow reach h (of s rows lines own' l []) rest e) again f),
       )
 
-  follow_asides : (is : List (List ℕ)) (rows : List RowOf) (lines : List AllowLine) (own' : List OwnAttribute) (entries : List EntryOf) (asides : List (List ℕ)) (e : DeclarationOf) → All (λ _. h.settings.unjudged ≢ unjudged.Refused) is
+  follow_asides : (is : List (List ℕ)) (rows : List RowOf) (lines : List AllowLine) (own' : List OwnAttribute) (entries : List EntryOf) (asides : List (List ℕ)) (e : DeclarationOf) → All (λ _. ReachesAsides reach h.settings) is
       → AreDistinct (asides ++ is) → All (λ (x : EntryOf). All (λ (id : List ℕ). id ≢ x.id) is) entries
       → Follow reach h (of s rows lines own' entries (asides ++ is)) [] e → Follow reach h (of s rows lines own' entries asides) (map aside_item is) e
   follow_asides [] rows lines own' entries asides e u p a f = subst (λ (l : List (List ℕ)). Follow reach h (of s rows lines own' entries l) [] e) (append-nil asides) f
   follow_asides (i ∷ is) rows lines own' entries asides e u p a f =
       let again = sym (append_assoc asides (i ∷ []) is) in (
         aside i,
-        record { says = refl; fit = tt; admitted = u 0 i (omega arith); reached = reached_aside reach i },
+        record { says = refl; fit = tt; admitted = u 0 i (omega arith) },
         (λ k x lt same. a k x lt 0 i (omega arith) (sym same), pairs_with (λ (x y : List ℕ). x ≢ y) asides is i p),
-        follow_asides is rows lines own' entries (asides ++ i ∷ []) e (All-tail (λ _. h.settings.unjudged ≢ unjudged.Refused) i is u) (subst AreDistinct again p)
+        follow_asides is rows lines own' entries (asides ++ i ∷ []) e (All-tail (λ _. ReachesAsides reach h.settings) i is u) (subst AreDistinct again p)
             (λ k x lt. All-tail (λ (id : List ℕ). id ≢ (get_or entries k x).id) i is (a k x lt))
             (subst (λ (l : List (List ℕ)). Follow reach h (of s rows lines own' entries l) [] e) again f),
       )
@@ -436,7 +415,7 @@ module _ (reach : Reach) (d : DeclarationOf) (h : DeclarationHeader) (may : MayB
       (follow_own reach h s d.own_attributes d.rows d.allow_lines [] _ d (some_version h.version d.own_attributes (λ first. (low.serves first).own)) may.own
       (follow_entries reach h s d.entries d.rows d.allow_lines d.own_attributes [] _ d fits are.distinct
       (follow_asides reach h s d.asides d.rows d.allow_lines d.own_attributes d.entries [] d
-      (some_unjudged d.asides (λ some. subst (λ (x : Settings). x.unjudged ≢ unjudged.Refused) (sym low.settings) (may.settings.aside some))) are.asides are.apart
+      (some_unjudged d.asides (λ some. subst (λ (x : Settings). ReachesAsides reach x) (sym low.settings) (may.settings.aside some))) are.asides are.apart
       (ap (λ (x : Settings). of x d.rows d.allow_lines d.own_attributes d.entries d.asides) low.settings)))))
 
   pub written : (old new : List ℕ) → AddsAll (declaration_header h ∷ written_records d) old new → Appends (IsWrittenDeclarationWithin reach d) old new

@@ -13,7 +13,6 @@ use Rattle.kmipa_record.specs.DeclarationRecords.{RecordOf, SaysRecord, IsFit}
 use Rattle.kmipa_record.specs.Declarations.{DeclarationOf, AreDeclared, Admits, Follow, IsHeader, MayFollow, nothing_declared, with_record}
 use Rattle.kmipa_record.specs.Hashes.{identifier_hash}
 use Rattle.kmipa_record.specs.Entries.{EntryOf, entry_of}
-use Rattle.kmipa_record.specs.Reaches.{ReachesRecord}
 use Rattle.kmipa_record.specs.Settings.{declaration_header}
 use Rattle.kmipa_record.specs.Taking.{Refuses}
 use Rattle.kmipa_record.specs.declared.fault.RecordKind.{RecordKind}
@@ -35,15 +34,10 @@ pub record SaysFit (item : Tree) (r : RecordOf) : Type 0 where
 abbrev pub IsRecord : Tree → Type 0
 IsRecord item = (r : RecordOf) × SaysFit item r
 
--- a declaration with this header may have the record within reach
-pub record IsAdmitted (reach : Reach) (h : DeclarationHeader) (r : RecordOf) : Type 0 where
-  pub admitted : Admits h r
-  pub reached : ReachesRecord reach r
-
 -- why a record isn't handed over: a declaration with this header may not have it, or it is refused behind what is declared so far
 pub data IsRefused (reach : Reach) (h : DeclarationHeader) (declared : DeclarationOf) (r : RecordOf) (kind : RecordKind) : Type 0 where
-  inadmissible : ¬ (IsAdmitted reach h r) → kind ≡ kinds.Entry → IsRefused reach h declared r kind
-  behind : IsAdmitted reach h r → Refuses declared r kind → IsRefused reach h declared r kind
+  inadmissible : ¬ (Admits reach h r) → kind ≡ kinds.Entry → IsRefused reach h declared r kind
+  behind : Admits reach h r → Refuses declared r kind → IsRefused reach h declared r kind
 
 -- ---- the records so far
 

@@ -1,5 +1,5 @@
 -- How a declaration is written. Not promised: `Writing` says what is written.
-use Rattle.std.specs.Prelude.{◌≡◌, ◌≢◌, ℕ, Bool, List, [], ◌∷◌, ◌++◌, map, All, AllPairs, None}
+use Rattle.std.specs.Prelude.{◌≡◌, ◌≢◌, ℕ, List, [], ◌++◌, map, All, AllPairs, None}
 use Rattle.std.specs.BTreeSet.{BTreeSet, contains_text}
 use Rattle.std.specs.Global.{Global}
 use Rattle.std.specs.List.{list_any}
@@ -8,14 +8,13 @@ use Rattle.std.specs.Str.{bytes_eq}
 use Rattle.kmipa_ttlv.specs.Tree.{Tree}
 use Rattle.kmipa_ttlv.specs.Written.{Legal}
 use Rattle.kmipa_object.specs.declared.allow.AllowLine.{AllowLine}
-use Rattle.kmipa_msgs.specs.declared.rules.Unjudged.TheVariants.{Refused}
 use Rattle.kmipa_attrs.specs.Names.{HasNoRepeats}
 use Rattle.kmipa_attrs.specs.Sets.{Attributes}
-use Rattle.kmipa_record.specs.DeclarationRecords.{row_item, own, aside_item}
+use Rattle.kmipa_record.specs.DeclarationRecords.{row_item, aside_item}
 use Rattle.kmipa_record.specs.Declarations.{DeclarationOf}
 use Rattle.kmipa_record.specs.Entries.{EntryOf, IsDeclarable, written_entry}
 use Rattle.kmipa_record.specs.Lines.{allow_line_item, IsMovable, AreOfOneCell, own_line_item}
-use Rattle.kmipa_record.specs.Reaches.{ReachesSettings, ReachesRecord}
+use Rattle.kmipa_record.specs.Reaches.{ReachesSettings, ReachesAsides}
 use Rattle.kmipa_record.specs.Settings.{IsTolerance}
 use Rattle.kmipa_record.specs.Writing.{IsPlain}
 use Rattle.kmipa_record.specs.declared.declaration_header.DeclarationHeader.{DeclarationHeader}
@@ -39,10 +38,9 @@ pub record AreLines (lines : List AllowLine) : Type 0 where
   pub each : All IsMovable lines
   pub distinct : AllPairs (λ (a b : AllowLine). ¬ (AreOfOneCell a b)) lines
 
--- attributes of own lines that may stand in one declaration within reach
-pub record AreOwn (reach : Reach) (attributes : List OwnAttribute) : Type 0 where
-  pub each : All (λ (a : OwnAttribute). ReachesRecord reach (own a)) attributes
-  pub distinct : AllPairs (λ (a b : OwnAttribute). a ≢ b) attributes
+-- attributes of own lines that may stand in one declaration
+abbrev pub AreOwn : List OwnAttribute → Type 0
+AreOwn = AllPairs (λ (a b : OwnAttribute). a ≢ b)
 
 abbrev pub AreDistinct : List (List ℕ) → Type 0
 AreDistinct = AllPairs (λ (a b : List ℕ). a ≢ b)
@@ -60,13 +58,13 @@ pub record MayStandTogether (entries : List EntryOf) (asides : List (List ℕ)) 
 pub record HasFitSettings (reach : Reach) (d : DeclarationOf) : Type 0 where
   pub tolerance : IsTolerance d.settings.tolerance
   pub reached : ReachesSettings reach d.settings
-  pub aside : d.asides ≢ [] → d.settings.unjudged ≢ Refused
+  pub aside : d.asides ≢ [] → ReachesAsides reach d.settings
 
 -- what may be declared within reach, whatever the lengths of its records
 pub record MayBeDeclared (reach : Reach) (d : DeclarationOf) : Type 0 where
   pub settings : HasFitSettings reach d
   pub lines : AreLines d.allow_lines
-  pub own : AreOwn reach d.own_attributes
+  pub own : AreOwn d.own_attributes
   pub together : MayStandTogether d.entries d.asides
 
 -- what can be written

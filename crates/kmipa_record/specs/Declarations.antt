@@ -5,12 +5,11 @@ use Rattle.kmipa_ttlv.specs.Tree.{Tree}
 use Rattle.kmipa_ttlv.specs.Stream.{Begins}
 use Rattle.kmipa_object.specs.declared.allow.AllowLine.{AllowLine}
 use Rattle.kmipa_msgs.specs.Messages.{RowOf, row_of}
-use Rattle.kmipa_msgs.specs.declared.rules.Unjudged.TheVariants.{Refused}
 use Rattle.kmipa_record.specs.DeclarationRecords.{RecordOf, row, allow, own, entry, aside, SaysRecord, IsFit}
 use Rattle.kmipa_record.specs.Entries.{EntryOf, entry_of, IsDeclarable}
 use Rattle.kmipa_record.specs.Files.{FirstFault, IsRightUpTo}
 use Rattle.kmipa_record.specs.Lines.{AreOfOneCell}
-use Rattle.kmipa_record.specs.Reaches.{ReachesSettings, ReachesRecord}
+use Rattle.kmipa_record.specs.Reaches.{ReachesSettings, ReachesAsides}
 use Rattle.kmipa_record.specs.Settings.{MayHave, declaration_header}
 use Rattle.kmipa_record.specs.declared.declaration.Declaration.{Declaration}
 use Rattle.kmipa_record.specs.declared.declaration_version.DeclarationVersion.TheVariants.{Second}
@@ -105,13 +104,14 @@ MayFollow d (own a) = HasNoObjects d × IsNewAttribute d.own_attributes a
 MayFollow d (entry e) = IsNewIdentifier d e.id
 MayFollow d (aside id) = IsNewIdentifier d id
 
--- A declaration with this header may have the record: lines and owners only in version 2, and what is set aside only where it says so.
-abbrev pub Admits : DeclarationHeader → RecordOf → Type 0
-Admits h (row r) = Unit {0}
-Admits h (allow l) = h.version ≡ Second
-Admits h (own a) = h.version ≡ Second
-Admits h (entry e) = IsSome e.owner → h.version ≡ Second
-Admits h (aside id) = h.settings.unjudged ≢ Refused
+-- A declaration with this header may have the record within reach: lines and owners only in version 2, and what is set aside only where it
+-- may set identifiers aside.
+abbrev pub Admits : Reach → DeclarationHeader → RecordOf → Type 0
+Admits reach h (row r) = Unit {0}
+Admits reach h (allow l) = h.version ≡ Second
+Admits reach h (own a) = h.version ≡ Second
+Admits reach h (entry e) = IsSome e.owner → h.version ≡ Second
+Admits reach h (aside id) = ReachesAsides reach h.settings
 
 -- ---- the items
 
@@ -125,8 +125,7 @@ pub record IsHeader (reach : Reach) (item : Tree) (h : DeclarationHeader) : Type
 pub record IsRecordUnder (reach : Reach) (h : DeclarationHeader) (item : Tree) (r : RecordOf) : Type 0 where
   pub says : SaysRecord item r
   pub fit : IsFit r
-  pub admitted : Admits h r
-  pub reached : ReachesRecord reach r
+  pub admitted : Admits reach h r
 
 -- Each item is a record that may stand behind what is declared ahead of it; behind the last one this is declared.
 abbrev pub Follow : Reach → DeclarationHeader → DeclarationOf → List Tree → DeclarationOf → Type 0

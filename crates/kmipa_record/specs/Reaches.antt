@@ -1,18 +1,18 @@
 -- How far files are read and written: `Whole` is all that the formats have, `Judged` what calls are judged by today.
-use Rattle.std.specs.Prelude.{◌≡◌}
-use Rattle.kmipa_msgs.specs.declared.rules.Unjudged.TheVariants.{Refused}
+use Rattle.std.specs.Prelude.{◌≡◌, ◌≢◌}
+use Rattle.kmipa_msgs.specs.declared.rules.Unjudged.TheVariants.{Refused, Unknown}
 use Rattle.kmipa_msgs.specs.declared.rules.Visibility.TheVariants.{Everyone}
-use Rattle.kmipa_record.specs.DeclarationRecords.{RecordOf, own}
 use Rattle.kmipa_record.specs.declared.reach.Reach.{Reach}
 use Rattle.kmipa_record.specs.declared.reach.Reach.TheVariants.{Judged, Whole}
 use Rattle.kmipa_record.specs.declared.settings.Settings.{Settings}
 
--- the settings of a declaration that is judged: nothing is set aside, and clients see every object
+-- the settings of a declaration by which calls are judged: not everything that isn't declared is unknown, and clients see every object
 abbrev pub ReachesSettings : Reach → Settings → Type 0
 ReachesSettings Whole s = Unit {0}
-ReachesSettings Judged s = (s.unjudged ≡ Refused) × (s.visibility ≡ Everyone)
+ReachesSettings Judged s = (s.unjudged ≢ Unknown) × (s.visibility ≡ Everyone)
 
--- the records of a declaration that is judged: no own lines
-abbrev pub ReachesRecord : Reach → RecordOf → Type 0
-ReachesRecord Judged (own a) = ⊥
-ReachesRecord _ _ = Unit {0}
+-- a declaration with these settings may set identifiers aside: one that says what becomes of what isn't judged; and none by which calls
+-- are judged
+abbrev pub ReachesAsides : Reach → Settings → Type 0
+ReachesAsides Whole s = s.unjudged ≢ Refused
+ReachesAsides Judged s = ⊥

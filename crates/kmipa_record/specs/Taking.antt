@@ -3,9 +3,9 @@ use Rattle.std.specs.Prelude.{◌≡◌, ◌⊎◌, ℕ, List}
 use Rattle.std.specs.String.{string_bytes}
 use Rattle.kmipa_msgs.specs.Messages.{row_of}
 use Rattle.kmipa_record.specs.DeclarationRecords.{RecordOf, row, allow, own, entry, aside}
-use Rattle.kmipa_record.specs.Declarations.{DeclarationOf, AreDeclared, IsDeclarationWithin, IsHeader, Admits, MayFollow, misplaced_kind}
+use Rattle.kmipa_record.specs.Declarations.{DeclarationOf, AreDeclared, IsDeclarationWithin, Admits, MayFollow, misplaced_kind}
 use Rattle.kmipa_record.specs.Entries.{entry_of}
-use Rattle.kmipa_record.specs.Reaches.{ReachesSettings, ReachesRecord}
+use Rattle.kmipa_record.specs.Reaches.{ReachesSettings}
 use Rattle.kmipa_record.specs.Settings.{MayHave}
 use Rattle.kmipa_record.specs.declared.declaration_record.DeclarationRecord.{DeclarationRecord}
 use Rattle.kmipa_record.specs.declared.declaration_record.DeclarationRecord.TheVariants.{Row, Allow, Own, Entry, Aside}
@@ -25,7 +25,7 @@ record_of (Aside id) = aside (string_bytes id)
 
 -- each record that a declaration within reach may have is among these
 abbrev pub TakesAll : Reach → (RecordOf → Type 0) → Type 0
-TakesAll reach takes = (h : DeclarationHeader) (r : RecordOf) → MayHave h.version h.settings → ReachesSettings reach h.settings → Admits h r → ReachesRecord reach r → takes r
+TakesAll reach takes = (h : DeclarationHeader) (r : RecordOf) → MayHave h.version h.settings → ReachesSettings reach h.settings → Admits reach h r → takes r
 
 -- a record is refused behind what is declared so far: for memory, or because it may not stand there
 abbrev pub Refuses : DeclarationOf → RecordOf → RecordKind → Type 0

@@ -2,7 +2,7 @@
 
 ghost use Rattle.std.specs.Prelude.{◌≡◌, ◌≢◌, ◌↔◌, ◌++◌, ℕ, List, [], IsTrue, false, IfOk, IfErr, MatchResult};
 ghost use Rattle.kmipa_ttlv.specs.Input.{came_of, taken_of, is_failed, IsFileOf, StaysOver};
-ghost use Rattle.kmipa_record.specs.DeclarationReading.{IsAdmitted, IsReadSoFar, IsRefused};
+ghost use Rattle.kmipa_record.specs.DeclarationReading.{IsReadSoFar, IsRefused};
 ghost use Rattle.kmipa_record.specs.DeclarationRecords.{IsFit};
 ghost use Rattle.kmipa_record.specs.Declarations.{DeclarationOf, Admits, DeclarationFaultWithin, IsDeclarationUpToWithin, MayFollow, nothing_declared, with_record};
 ghost use Rattle.kmipa_record.specs.Files.{Tells, TellsItem};
@@ -17,7 +17,6 @@ use crate::fault::{RecordFault, RecordKind};
 use crate::reach::Reach;
 use crate::record::read_header;
 use crate::taking::TakesRecords;
-use kmipa_msgs::Unjudged;
 use kmipa_ttlv::Input;
 use std::alloc::Global;
 use std::io::Read;
@@ -67,28 +66,25 @@ pub fn hand_over<T: TakesRecords>(
     requires held { (declared : DeclarationOf) × T.holds taker.old declared }
     ensures { (declared : DeclarationOf) → T.holds taker.old declared
         → MatchResult result
-        (λ _. IsAdmitted reach header.now (record_of given) × MayFollow declared (record_of given)
+        (λ _. Admits reach header.now (record_of given) × MayFollow declared (record_of given)
         × T.holds taker.new (with_record declared (record_of given)))
         (IsRefused reach header.now declared (record_of given)) }
 {
-    if !reach.reaches_record(&given) || !admits(header, &given) {
+    if !admits(reach, header, &given) {
         return Err(RecordKind::Entry);
     }
     taker.take(given)
 }
 
-/// Whether a declaration with this header may have the record.
-fn admits(header: &DeclarationHeader, given: &DeclarationRecord) -> bool
-    ensures { IsTrue result ↔ Admits header.now (record_of given.now) }
+/// Whether a declaration with this header may have the record within reach.
+fn admits(reach: Reach, header: &DeclarationHeader, given: &DeclarationRecord) -> bool
+    ensures { IsTrue result ↔ Admits reach header.now (record_of given.now) }
 {
     match given {
         DeclarationRecord::Row(_) => true,
         DeclarationRecord::Entry(entry) => entry.owner.is_none() || is_second(header),
         DeclarationRecord::Allow(_) | DeclarationRecord::Own(_) => is_second(header),
-        DeclarationRecord::Aside(_) => match header.settings.unjudged {
-            Unjudged::Refused => false,
-            Unjudged::SetAside | Unjudged::Unknown => true,
-        },
+        DeclarationRecord::Aside(_) => reach.reaches_asides(&header.settings),
     }
 }
 

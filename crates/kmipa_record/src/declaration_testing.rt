@@ -18,7 +18,6 @@ use crate::reach::Reach;
 use crate::settings::is_tolerance;
 use crate::shape::are_bytes;
 use kmipa_attrs::AttrSet;
-use kmipa_msgs::Unjudged;
 use kmipa_object::AllowLine;
 use std::alloc::Global;
 use std::collections::BTreeSet;
@@ -36,7 +35,7 @@ pub fn test_declaration(
         return Err(RecordKind::Entry);
     }
     test_lines(alloc, &declaration.allow_lines)?;
-    test_attributes(alloc, reach, &declaration.own_attributes)?;
+    test_attributes(alloc, &declaration.own_attributes)?;
     test_objects(alloc, &declaration.entries, &declaration.asides)
 }
 
@@ -47,17 +46,7 @@ fn has_fit_settings(declaration: &Declaration, reach: Reach) -> bool
     let settings = &declaration.settings;
     is_tolerance(settings.tolerance)
         && reach.reaches_settings(settings)
-        && (declaration.asides.is_empty() || has_asides(settings.unjudged))
-}
-
-/// Whether a declaration that says so may set identifiers aside.
-fn has_asides(unjudged: Unjudged) -> bool
-    ensures { IsTrue result ↔ (unjudged ≢ Unjudged.Refused) }
-{
-    match unjudged {
-        Unjudged::Refused => false,
-        Unjudged::SetAside | Unjudged::Unknown => true,
-    }
+        && (declaration.asides.is_empty() || reach.reaches_asides(settings))
 }
 
 /// Tests whether these lines may stand in one declaration; `Entry` where they may not.
@@ -80,20 +69,13 @@ fn test_lines(alloc: Global, lines: &[AllowLine]) -> Result<(), RecordKind>
     Ok(())
 }
 
-/// Tests whether own lines of these attributes may stand in one declaration within reach; `Entry` where they may not.
-fn test_attributes(
-    alloc: Global,
-    reach: Reach,
-    attributes: &[OwnAttribute],
-) -> Result<(), RecordKind>
-    ensures own { OnOk result (AreOwn reach attributes.now) }
-    ensures refused { IfErr result (Refused (AreOwn reach attributes.now)) }
+/// Tests whether own lines of these attributes may stand in one declaration; `Entry` where they may not.
+fn test_attributes(alloc: Global, attributes: &[OwnAttribute]) -> Result<(), RecordKind>
+    ensures own { OnOk result (AreOwn attributes.now) }
+    ensures refused { IfErr result (Refused (AreOwn attributes.now)) }
 {
     let mut seen = Vec::new(alloc);
     for attribute in attributes {
-        if !reach.reaches_attributes() {
-            return Err(RecordKind::Entry);
-        }
         if !is_new_attribute(&seen, *attribute) {
             return Err(RecordKind::Entry);
         }

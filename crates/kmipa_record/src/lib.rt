@@ -71,6 +71,7 @@ pub use laws::{
 pub use marks::Marks;
 pub use number_map::NumberMap;
 pub use own_attribute::OwnAttribute;
+pub use own_line::is_new_attribute;
 pub use reach::Reach;
 pub use recorded_marks::RecordedMarks;
 pub use settings::Settings;

@@ -1,12 +1,8 @@
 //! How far files are read and written.
 
 ghost use Rattle.std.specs.Prelude.{◌↔◌, IsTrue};
-ghost use Rattle.kmipa_record.specs.Reaches.{ReachesSettings, ReachesRecord};
-ghost use Rattle.kmipa_record.specs.DeclarationRecords.{own};
-ghost use Rattle.kmipa_record.specs.Taking.{record_of};
-ghost use Rattle.kmipa_record.specs.declared.own_attribute.OwnAttribute.{OwnAttribute};
+ghost use Rattle.kmipa_record.specs.Reaches.{ReachesAsides, ReachesSettings};
 
-use crate::declaration_record::DeclarationRecord;
 use crate::settings::Settings;
 use kmipa_msgs::{Unjudged, Visibility};
 
@@ -27,29 +23,20 @@ impl Reach {
         match self {
             Reach::Whole => true,
             Reach::Judged => match (settings.unjudged, settings.visibility) {
-                (Unjudged::Refused, Visibility::Everyone) => true,
+                (Unjudged::Refused | Unjudged::SetAside, Visibility::Everyone) => true,
                 _ => false,
             },
         }
     }
 
-    /// Whether a record of a declaration is within reach.
-    pub fn reaches_record(self, given: &DeclarationRecord) -> bool
-        ensures { IsTrue result ↔ ReachesRecord self (record_of given.now) }
+    /// Whether a declaration with these settings may set identifiers aside.
+    pub fn reaches_asides(self, settings: &Settings) -> bool
+        ensures { IsTrue result ↔ ReachesAsides self settings.now }
     {
-        match given {
-            DeclarationRecord::Own(_) => self.reaches_attributes(),
-            _ => true,
-        }
-    }
-
-    /// Whether own lines are within reach.
-    pub fn reaches_attributes(self) -> bool
-        ensures { (a : OwnAttribute) → IsTrue result ↔ ReachesRecord self (own a) }
-    {
-        match self {
-            Reach::Judged => false,
-            Reach::Whole => true,
+        match (self, settings.unjudged) {
+            (Reach::Judged, _) => false,
+            (Reach::Whole, Unjudged::Refused) => false,
+            (Reach::Whole, Unjudged::SetAside | Unjudged::Unknown) => true,
         }
     }
 }
