@@ -5,7 +5,7 @@ use Rattle.kmipa_object.specs.declared.life.SecretNo.{SecretNo}
 use Rattle.kmipa_object.specs.declared.rule.Rule.{Rule}
 use Rattle.kmipa_store.specs.Ledger.{Held, Meaning, LedgerState, marked, undone, undone_from}
 use Rattle.kmipa_store.specs.Memory.{RefusedForMemory}
-use Rattle.kmipa_store.specs.Calls.{Adds, Replaces, MakesSecret, Learns, SetsMark}
+use Rattle.kmipa_store.specs.Calls.{Adds, Replaces, Renews, MakesSecret, Learns, SetsAside, TakesIn, SetsMark}
 use Rattle.kmipa_store.specs.declared.fault.StoreFault.{StoreFault}
 use Rattle.kmipa_store.specs.declared.fault.StoreFault.TheVariants.{IdentifierTaken, BytesDiffer, LengthImpossible, Memory}
 use Rattle.kmipa_store.specs.declared.ledger.Mark.{Mark}
@@ -56,6 +56,26 @@ learns_length s number bytes (Err IdentifierTaken) t a = absurd a
 learns_length s number bytes (Err BytesDiffer) t a = (ap (λ (x : LedgerState). length x.now.secrets) a.1, ap (λ (x : LedgerState). x.now.objects) a.1, ap (λ (x : LedgerState). x.marks) a.1)
 learns_length s number bytes (Err LengthImpossible) t a = (ap (λ (x : LedgerState). length x.now.secrets) a.1, ap (λ (x : LedgerState). x.now.objects) a.1, ap (λ (x : LedgerState). x.marks) a.1)
 learns_length s number bytes (Err Memory) t a = (ap (λ (x : LedgerState). length x.now.secrets) a.2, ap (λ (x : LedgerState). x.now.objects) a.2, ap (λ (x : LedgerState). x.marks) a.2)
+
+-- `renew` leaves the secrets and the marks
+pub renews_secrets : (s : LedgerState) (place : ℕ) (h : Held) (r : Result (Unit {0}) StoreFault) (t : LedgerState) → Renews s place h r t → (t.now.secrets ≡ s.now.secrets) × (t.marks ≡ s.marks)
+renews_secrets s place h (Ok u) t a = (ap (λ (x : LedgerState). x.now.secrets) a, ap (λ (x : LedgerState). x.marks) a)
+renews_secrets s place h (Err fault) t a = let e = refused_same fault s t a in (ap (λ (x : LedgerState). x.now.secrets) e, ap (λ (x : LedgerState). x.marks) e)
+
+-- `set_aside` and `take_in` leave the objects, the secrets and the marks
+pub sets_aside_same : (s : LedgerState) (id : List ℕ) (r : Result (Unit {0}) StoreFault) (t : LedgerState) → SetsAside s id r t
+    → (t.now.objects ≡ s.now.objects) × (t.now.secrets ≡ s.now.secrets) × (t.marks ≡ s.marks)
+sets_aside_same s id (Ok u) t a = (ap (λ (x : LedgerState). x.now.objects) a, ap (λ (x : LedgerState). x.now.secrets) a, ap (λ (x : LedgerState). x.marks) a)
+sets_aside_same s id (Err fault) t a =
+    let e = refused_same fault s t a in
+    (ap (λ (x : LedgerState). x.now.objects) e, ap (λ (x : LedgerState). x.now.secrets) e, ap (λ (x : LedgerState). x.marks) e)
+
+pub takes_in_same : (s : LedgerState) (id : List ℕ) (r : Result (Unit {0}) StoreFault) (t : LedgerState) → TakesIn s id r t
+    → (t.now.objects ≡ s.now.objects) × (t.now.secrets ≡ s.now.secrets) × (t.marks ≡ s.marks)
+takes_in_same s id (Ok u) t a = (ap (λ (x : LedgerState). x.now.objects) a, ap (λ (x : LedgerState). x.now.secrets) a, ap (λ (x : LedgerState). x.marks) a)
+takes_in_same s id (Err fault) t a =
+    let e = refused_same fault s t a in
+    (ap (λ (x : LedgerState). x.now.objects) e, ap (λ (x : LedgerState). x.now.secrets) e, ap (λ (x : LedgerState). x.marks) e)
 
 -- `mark` changes nothing but the marks
 pub marks_now : (s : LedgerState) (r : Result Mark StoreFault) (t : LedgerState) → SetsMark s r t → t.now ≡ s.now

@@ -22,6 +22,7 @@ use Rattle.kmipa_object.specs.declared.state.State.TheVariants.{PreActive, Activ
 use Rattle.kmipa_object.proofs.ListLemmas.{get-map, get-updated_other, get-updated_same, length-updated, map-push, map-updated, below_get, get_below}
 use Rattle.kmipa_store.specs.Clock.{Awaits, Due, due_cmp, is_due, looked, looked_at, states_at}
 use Rattle.kmipa_store.specs.Ledger.{Held, relived, with_life}
+use Rattle.kmipa_store.specs.Objects.{become, exchanged}
 use Rattle.kmipa_store.specs.Queries.{state_of_place}
 use Rattle.kmipa_store.proofs.DueLemmas.{due_above, due_same, max_first, max_second, same_place}
 use Rattle.kmipa_store.proofs.NameLemmas.{length-map}
@@ -38,6 +39,9 @@ states_popped hs t =
 
 pub states_relived : (hs : List Held) (place : ℕ) (life : Life) (t : ℤ) → states_at (relived hs place life) t ≡ updated (states_at hs t) place (λ _. state (dates_of life) t)
 states_relived hs place life t = map-updated (λ (x : Held). state x.card.dates t) (λ h. with_life h life) (λ _. state (dates_of life) t) hs place (λ x. refl)
+
+pub states_exchanged : (hs : List Held) (place : ℕ) (h : Held) (t : ℤ) → states_at (exchanged hs place h) t ≡ updated (states_at hs t) place (λ _. state h.card.dates t)
+states_exchanged hs place h t = map-updated (λ (x : Held). state x.card.dates t) (λ x. become x h) (λ _. state h.card.dates t) hs place (λ x. refl)
 
 -- two moments that stand between two others
 pub record Within (low high : ℤ) (t : ℤ) : Type 0 where

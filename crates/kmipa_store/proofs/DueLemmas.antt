@@ -10,12 +10,13 @@ use Rattle.std.specs.BTreeSet.{insert_key}
 use Rattle.std.proofs.lemmas.Cmp.{int_cmp_total, nat_cmp_total, int_ranked, ranked, tied_itself}
 use Rattle.std.proofs.lemmas.Int.{ints}
 use Rattle.kmipa_object.specs.Life.{dates_of}
+use Rattle.kmipa_object.specs.Lists.{updated}
 use Rattle.kmipa_object.specs.declared.life.Life.{Life}
 use Rattle.kmipa_object.proofs.ListLemmas.{get-append_cases}
 use Rattle.kmipa_store.specs.Clock.{Awaits, Due, Dues, NotesDate, Time, due_cmp, dropped, is_awaited, is_due, noted, noted_life}
-use Rattle.kmipa_store.specs.Ledger.{Held, relived}
+use Rattle.kmipa_store.specs.Ledger.{Held, relived, with_life}
 use Rattle.kmipa_store.proofs.OrderLemmas.{found_inserted, or_true, removed_again, still_found}
-use Rattle.kmipa_store.proofs.SoundLemmas.{relived_from}
+use Rattle.kmipa_store.proofs.SoundLemmas.{updated_from}
 
 pub due_total : IsTotalOrder due_cmp
 due_total = then_total (on_total (λ (x : Due). x.0) int_cmp_total) (on_total (λ (x : Due). x.1) nat_cmp_total)
@@ -159,22 +160,25 @@ awaits_pushed hs h t due place life last is a = record {
   ];
 }
 
--- an object that leads another life
-pub awaits_relived : (hs : List Held) (t : ℤ) (due : Dues) (place : ℕ) (life : Life) → Awaits hs due → Awaits (relived hs place life) (noted_life t due place life)
-awaits_relived hs t due place life a = record {
+-- an object that has the dates of a life from now on
+pub awaits_updated : (hs : List Held) (t : ℤ) (due : Dues) (place : ℕ) (life : Life) (f : Held → Held) → ((x : Held) → (f x).card.dates ≡ dates_of life) → Awaits hs due → Awaits (updated hs place f) (noted_life t due place life)
+awaits_updated hs t due place life f has a = record {
   activation = λ p g date at e.
-      let r = relived_from hs place p life g at in
+      let r = updated_from hs place p f g at in
       elim r.2 [
         | inl old ↦ life_still t due place life date p (a.activation p r.0 date r.1 (ap (λ (x : Held). x.card.dates.activation) (sym old) ∙ e))
-        | inr new ↦ (own_dates t due place p life g new.0 (ap (λ (x : Held). x.card.dates) new.1)).0 date e
+        | inr new ↦ (own_dates t due place p life g new.0 (ap (λ (x : Held). x.card.dates) new.1 ∙ has r.0)).0 date e
       ];
   deactivation = λ p g date at e.
-      let r = relived_from hs place p life g at in
+      let r = updated_from hs place p f g at in
       elim r.2 [
         | inl old ↦ life_still t due place life date p (a.deactivation p r.0 date r.1 (ap (λ (x : Held). x.card.dates.deactivation) (sym old) ∙ e))
-        | inr new ↦ (own_dates t due place p life g new.0 (ap (λ (x : Held). x.card.dates) new.1)).1 date e
+        | inr new ↦ (own_dates t due place p life g new.0 (ap (λ (x : Held). x.card.dates) new.1 ∙ has r.0)).1 date e
       ];
 }
+
+pub awaits_relived : (hs : List Held) (t : ℤ) (due : Dues) (place : ℕ) (life : Life) → Awaits hs due → Awaits (relived hs place life) (noted_life t due place life)
+awaits_relived hs t due place life a = awaits_updated hs t due place life (λ x. with_life x life) (λ x. refl) a
 
 -- a date of the past, a date that was put in order, and one that stood there
 pub noted_low : (s : Time) (place : ℕ) (o : Option ℤ) (date floor : ℤ) → o ≡ Some date → int_le date s.moment ≡ true → floor ≡ int_max s.due.floor date

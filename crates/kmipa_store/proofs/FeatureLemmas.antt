@@ -1,15 +1,13 @@
 -- What the places that are listed say of the objects.
-use Rattle.std.proofs.Common.{◌≡◌, ◌≢◌, ◌<◌, ◌≤◌, ◌&&◌, ◌==◌, ◌-◌, ◌+◌, ℕ, zero, suc, ℤ, Bool, true, false, cond, is_none, is_some, nat_le, nat_lt, not, List, [], ◌∷◌, ◌++◌, length, map, take, Option, Some, None, option_map, slice_get, refl, ap, sym, ◌∙◌, subst, inl, inr, arith}
+use Rattle.std.proofs.Common.{◌≡◌, ◌≢◌, ◌<◌, ◌≤◌, ◌&&◌, ◌==◌, ◌-◌, ◌+◌, ℕ, zero, suc, ℤ, Bool, true, false, cond, is_none, is_some, nat_le, nat_lt, not, List, [], ◌∷◌, ◌++◌, length, take, Option, Some, None, option_map, slice_get, refl, ap, sym, ◌∙◌, subst, inl, inr, arith}
 use Rattle.std.specs.declared.cmp.Ordering.TheVariants.{Less}
 use Rattle.std.specs.Ordering.{nat_cmp, int_eq, ordering_then}
-use Rattle.std.specs.List.{position_from}
 use Rattle.std.specs.BTreeMap.{is_at}
 use Rattle.std.specs.BTreeSet.{insert_key}
 use Rattle.std.specs.Set.{remove_key}
 use Rattle.std.proofs.lemmas.Bool.{and_parts, false_from_ne_true}
 use Rattle.std.proofs.lemmas.Bool.Decides.{Decides-int_eq, nat_tests}
 use Rattle.kmipa_attrs.specs.ObjectTypes.{type_number}
-use Rattle.kmipa_object.specs.Inventory.{live}
 use Rattle.kmipa_object.specs.Allowances.{state_numbered}
 use Rattle.kmipa_object.specs.Lists.{updated}
 use Rattle.kmipa_object.specs.Life.{Dates, has_come, state, state_by_activation, state_number}
@@ -21,6 +19,7 @@ use Rattle.kmipa_store.specs.Clock.{states_at}
 use Rattle.kmipa_store.specs.Features.{Forgets, Keeps, KnowsFeature, KnowsLasting, KnowsStates, Notes, NotesIf, NotesLasting, NotesState, algorithm_of, code, is_lasting, is_live_state, is_noted, length_of, life_of, stands_with, stands_with_of, state_has}
 use Rattle.kmipa_store.specs.Ledger.{Held, relived}
 use Rattle.kmipa_store.specs.Names.{Named, is_listed, named_cmp}
+use Rattle.kmipa_store.specs.Objects.{become, exchanged}
 use Rattle.kmipa_store.specs.Queries.{has_feature, has_number, has_length, next_with}
 use Rattle.kmipa_store.specs.declared.feature.Feature.{Feature}
 use Rattle.kmipa_store.specs.declared.feature.Feature.TheVariants.{Live, State as InState, Kind, Algorithm, Length}
@@ -28,7 +27,7 @@ use Rattle.kmipa_store.specs.declared.features.Features.{Features}
 use Rattle.kmipa_store.proofs.BearerLemmas.{first_place, no_place}
 use Rattle.kmipa_store.proofs.NameLemmas.{Rests, Seeks, less_than, named_itself, named_same, none_before, still_under, taken_below, taken_from, tied, under}
 use Rattle.kmipa_store.proofs.OrderLemmas.{equal_at, found_inserted, still_found, still_there}
-use Rattle.kmipa_store.proofs.SoundLemmas.{relived_from}
+use Rattle.kmipa_store.proofs.SoundLemmas.{relived_from, updated_cases}
 
 same_number : (a b : ℕ) → (a == b) ≡ true → a ≡ b
 same_number a b e = grind (arith, nat_tests)
@@ -325,6 +324,19 @@ lasts_led fs hs ys place life knows e = subst (λ (zs : List Held). KnowsLasting
       | inl a ↦ ap (has_feature f t) (sym a) ∙ has
       | inr b ↦ same_feature f t x r.0 lasts (ap (λ (z : Held). z.card.kind) b.1) (ap (λ (z : Held). z.card.given) b.1) has
     ]))
+
+-- another object at a place
+pub lasts_exchanged : (old mid new : Features) (hs ys : List Held) (place : ℕ) (h g : Held) → KnowsLasting old hs → Forgets old place mid → ys ≡ exchanged hs place h → slice_get ys place ≡ Some g
+    → NotesLasting mid place g new → KnowsLasting new ys
+lasts_exchanged old mid new hs ys place h g knows forgets e there notes = λ known f lasts t p x at has.
+    let n = notes known in
+    elim (updated_cases hs place p (λ z. become z h) x (ap (λ (zs : List Held). slice_get zs p) (sym e) ∙ at)) [
+      | inl b ↦ n.1 f p (forgets.1 f p b.0 (knows (sym forgets.0 ∙ n.0) f lasts t p x b.1 has))
+      | inr b ↦
+          let both : Some g ≡ Some x = sym there ∙ ap (slice_get ys) (sym b) ∙ at in
+          let same : g ≡ x = cc in
+          subst (λ (k : ℕ). is_noted new f k ≡ true) (sym b) (n.2 f t lasts (ap (has_feature f t) same ∙ has))
+    ]
 
 -- what is known of the objects before a place
 abbrev pub LastsTo : Features → List Held → ℕ → Type 0

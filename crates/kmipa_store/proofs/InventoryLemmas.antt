@@ -9,7 +9,7 @@ use Rattle.kmipa_object.specs.declared.life.Material.{Material}
 use Rattle.kmipa_object.specs.declared.life.Material.TheVariants.{Gone, Secret}
 use Rattle.kmipa_object.specs.declared.life.SecretNo.{SecretNo}
 use Rattle.kmipa_object.proofs.ListLemmas.{get-map, map-push, get_below}
-use Rattle.kmipa_store.specs.Ledger.{Held, Known, Meaning, LedgerState, cards_of, relived, kept_from, undone_from, back_from, kept, undone, gone_back}
+use Rattle.kmipa_store.specs.Ledger.{aside_again, Held, Known, Meaning, LedgerState, cards_of, relived, kept_from, undone_from, back_from, kept, undone, gone_back}
 use Rattle.kmipa_store.specs.Choices.{Choice, inv, thing, bytes_of, InRange, Agrees}
 
 -- what does not speak of bytes is the same under each choice
@@ -94,7 +94,7 @@ place_none cs id e = none_from cs id 0 e
 pub kept-at : (s : LedgerState) (m : Meaning) (rest : List Meaning) → s.marks ≡ m ∷ rest → kept s ≡ record { now = s.now; marks = rest }
 kept-at s m rest e = ap (kept_from s.now) e
 
-pub undone-at : (s : LedgerState) (m : Meaning) (rest : List Meaning) → s.marks ≡ m ∷ rest → undone s ≡ record { now = record { objects = m.objects; secrets = s.now.secrets }; marks = rest }
+pub undone-at : (s : LedgerState) (m : Meaning) (rest : List Meaning) → s.marks ≡ m ∷ rest → undone s ≡ record { now = record { objects = m.objects; secrets = s.now.secrets; aside = aside_again m.aside s.now.aside }; marks = rest }
 undone-at s m rest e = ap (undone_from s.now) e
 
 pub gone_back-at : (s : LedgerState) (m : Meaning) (rest : List Meaning) → s.marks ≡ m ∷ rest → gone_back s ≡ record { now = m; marks = rest }

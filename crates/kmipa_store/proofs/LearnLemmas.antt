@@ -41,5 +41,5 @@ pub learns_known : (s : LedgerState) (number : ℕ) (bytes : List ℕ) → Judge
 learns_known s number bytes j = (
   j.1,
   known_breaks (slice_get s.now.secrets number) bytes j.0,
-  ap (λ (ks : List Known). record { now = record { objects = s.now.objects; secrets = ks }; marks = s.marks }) (sym (told_known s.now.secrets number bytes j)),
+  ap (λ (ks : List Known). record { now = record { objects = s.now.objects; secrets = ks; aside = s.now.aside }; marks = s.marks }) (sym (told_known s.now.secrets number bytes j)),
 )

@@ -8,6 +8,7 @@ pub mod HashLemmas
 pub mod SlotLemmas
 pub mod HistoryLemmas
 pub mod ChangeLemmas
+pub mod AsideLemmas
 pub mod LearnLemmas
 pub mod JournalLemmas
 pub mod QueryLemmas

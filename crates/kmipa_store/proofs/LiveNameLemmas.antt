@@ -12,13 +12,14 @@ use Rattle.kmipa_store.specs.Bearers.{bears_live, bears_live_of, is_named_at}
 use Rattle.kmipa_store.specs.Hashes.{name_hash}
 use Rattle.kmipa_store.specs.Ledger.{Held, relived}
 use Rattle.kmipa_store.specs.LiveNames.{CoversLive, Follows, FollowsBy, ForgetsLive, KnowsLive, NotesLive}
-use Rattle.kmipa_store.specs.Names.{AreListed, Named, is_listed, named_cmp}
+use Rattle.kmipa_store.specs.Names.{AreListed, Keeps, Named, is_listed, named_cmp}
+use Rattle.kmipa_store.specs.Objects.{become, exchanged}
 use Rattle.kmipa_store.specs.Queries.{has_name, has_name_alive, next_live_named}
 use Rattle.kmipa_store.specs.declared.live_names.LiveNames.{LiveNames}
 use Rattle.kmipa_store.specs.declared.names.Names.{Names}
 use Rattle.kmipa_store.proofs.BearerLemmas.{bears_live_at, bears_somewhere, first_place, name_at, named_at, no_place}
 use Rattle.kmipa_store.proofs.NameLemmas.{Rests, Seeks, hash_same, less_than, none_before, still_under, taken_below, taken_from, tied, under}
-use Rattle.kmipa_store.proofs.SoundLemmas.{relived_from}
+use Rattle.kmipa_store.proofs.SoundLemmas.{relived_from, updated_cases}
 
 -- a name that a live object has is listed
 listed_live : (names : Names) (objects : List Held) (p s : ℕ) (value : List ℕ) (kind : ℕ) → CoversLive names objects → bears_live objects p s value kind ≡ true
@@ -207,3 +208,28 @@ module _ (old new : LiveNames) (hs gs : List Held) (place : ℕ) (b h : Held) (l
 
   pub knows_led : (was_live : Bool) → was_live ≡ live b.card → Follows old was_live place h new → KnowsLive new gs
   knows_led was_live v f = knows_by was_live (live h.card) v refl f
+
+-- an object that wasn't listed is listed where it is live
+followed : (alive : Bool) (mid new : LiveNames) (place : ℕ) (ns : List NameOf) → FollowsBy false alive mid place ns new → new.is_whole ≡ true
+    → (mid.is_whole ≡ true) × Keeps mid.names new.names × (alive ≡ true → AreListed new.names place ns)
+followed true mid new place ns f whole = let n = f whole in (n.0, n.1, λ e. n.2)
+followed false mid new place ns f whole =
+    (ap (λ (x : LiveNames). x.is_whole) (sym f) ∙ whole, subst (λ (x : LiveNames). Keeps mid.names x.names) (sym f) (λ hash p s h. h), λ e. let clash : false ≡ true = e in cc)
+
+-- another object at a place
+pub knows_exchanged : (old mid new : LiveNames) (hs ys : List Held) (place : ℕ) (h g : Held) → KnowsLive old hs → ys ≡ exchanged hs place h → slice_get ys place ≡ Some g
+    → ForgetsLive old place mid → Follows mid false place g new → KnowsLive new ys
+knows_exchanged old mid new hs ys place h g knows e there forgets follows = λ whole.
+    let n = followed (live g.card) mid new place g.card.given.names follows whole in
+    let c = knows (sym forgets.0 ∙ n.0) in
+    record {
+      all = λ p x at alive s m of. elim (updated_cases hs place p (λ z. become z h) x (ap (λ (zs : List Held). slice_get zs p) (sym e) ∙ at)) [
+        | inl b ↦ n.1 (name_hash m.value m.kind) p s (forgets.1 (name_hash m.value m.kind) p s b.0 (c.all p x b.1 alive s m of))
+        | inr b ↦
+            let both : Some g ≡ Some x = sym there ∙ ap (slice_get ys) (sym b) ∙ at in
+            let same : g ≡ x = cc in
+            let Q : Held → Type 0 = λ z. live z.card ≡ true → AreListed new.names p z.card.given.names in
+            let R : ℕ → Type 0 = λ k. live g.card ≡ true → AreListed new.names k g.card.given.names in
+            subst Q same (subst R (sym b) n.2) alive s m of
+      ];
+    }

@@ -24,14 +24,15 @@ use Rattle.kmipa_object.specs.declared.life.Life.{Life}
 use Rattle.kmipa_object.proofs.ListLemmas.{get_below, get-append_cases}
 use Rattle.kmipa_store.specs.Hashes.{name_hash}
 use Rattle.kmipa_store.specs.Ledger.{Held, relived}
+use Rattle.kmipa_store.specs.Objects.{become, exchanged}
 use Rattle.kmipa_store.specs.Queries.{is_name, has_name, next_named, any_live_named}
 use Rattle.kmipa_store.specs.Bearers.{bears, bears_of, bears_live, bears_live_of, is_named_at}
-use Rattle.kmipa_store.specs.Names.{AreListed, Covers, Keeps, KeepsOthers, Named, Notes, is_listed, named_cmp}
+use Rattle.kmipa_store.specs.Names.{AreListed, Covers, Keeps, KeepsOthers, ListsAgain, Named, Notes, is_listed, named_cmp}
 use Rattle.kmipa_store.specs.declared.fault.StoreFault.{StoreFault}
 use Rattle.kmipa_store.specs.declared.names.Names.{Names}
 use Rattle.kmipa_store.proofs.BearerLemmas.{any_there, bears_at, bears_live_at, bears_somewhere, first_place, name_at, name_is, named_at, no_place, none_there}
 use Rattle.kmipa_store.proofs.OrderLemmas.{equal_at, found_inserted, still_found, still_there}
-use Rattle.kmipa_store.proofs.SoundLemmas.{relived_from}
+use Rattle.kmipa_store.proofs.SoundLemmas.{relived_from, updated_from}
 
 pub length-map : {X Y : Type 0} (f : X → Y) (xs : List X) → length (map f xs) ≡ length xs
 length-map f [] = refl
@@ -300,6 +301,26 @@ pub covers_relived : (names : Names) (hs : List Held) (place : ℕ) (life : Life
 covers_relived names hs place life = covers_fewer names hs (relived hs place life) (λ p g at.
     let r = relived_from hs place p life g at in
     (r.0, r.1, elim r.2 [ inl a ↦ ap (λ (x : Held). x.card.given.names) a | inr b ↦ ap (λ (x : Held). x.card.given.names) b.1 ]))
+
+-- another object at a place, whose names are listed there
+pub covers_exchanged : (old new : Names) (hs : List Held) (place : ℕ) (h : Held) → Covers old hs → Keeps old new → AreListed new place h.card.given.names → Covers new (exchanged hs place h)
+covers_exchanged old new hs place h c keeps lists = record {
+  all = λ p g at.
+      let r = updated_from hs place p (λ x. become x h) g at in
+      let P : Held → Type 0 = λ x. AreListed new p x.card.given.names in
+      let Q : ℕ → Type 0 = λ k. AreListed new k h.card.given.names in
+      elim r.2 [
+        | inl a ↦ subst P (sym a) (λ s n e. keeps (name_hash n.value n.kind) p s (c.all p r.0 r.1 s n e))
+        | inr b ↦ subst P (sym b.1) (subst Q (sym b.0) lists)
+      ];
+}
+
+-- and what went back to a place
+pub covers_back : (listed result : Bool) (old new : Names) (hs ys : List Held) (place : ℕ) (h : Held) (ns : List NameOf) → (listed ≡ true → Covers old hs) → ListsAgain old listed place ns result new → ns ≡ h.card.given.names
+    → ys ≡ exchanged hs place h → result ≡ true → Covers new ys
+covers_back listed result old new hs ys place h ns knows lists named e whole =
+    let l = lists whole in
+    subst (λ (x : List Held). Covers new x) (sym e) (covers_exchanged old new hs place h (knows l.0) l.1 (subst (λ (x : List NameOf). AreListed new place x) named l.2))
 
 pub taken_below : {X : Type 0} (xs : List X) (n p : ℕ) (x : X) → slice_get (take n xs) p ≡ Some x → p < n
 taken_below [] zero p x e = let bad : ⊥ = cc in absurd bad

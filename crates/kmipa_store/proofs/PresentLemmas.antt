@@ -1,5 +1,7 @@
 -- The present of a journal after a change, and after a change is taken back.
-use Rattle.std.proofs.Common.{◌≡◌, ℕ, ◌-◌, ℤ, List, [], ◌∷◌, ◌++◌, length, take, slice_get, Some, Ok, Err, refl, ap, sym, ◌∙◌, subst, arith, length-append}
+use Rattle.std.proofs.Common.{◌≡◌, ℕ, ◌-◌, ℤ, List, [], ◌∷◌, ◌++◌, length, take, slice_get, Some, Result, Ok, Err, refl, ap, sym, ◌∙◌, subst, arith, length-append}
+use Rattle.std.specs.declared.alloc.Global.{Global}
+use Rattle.std.specs.Prelude.{Box}
 use Rattle.kmipa_object.specs.Life.{dates_of, state}
 use Rattle.kmipa_object.specs.Lists.{updated}
 use Rattle.kmipa_object.specs.declared.life.Life.{Life}
@@ -7,14 +9,17 @@ use Rattle.kmipa_object.specs.declared.object.Object.{Object}
 use Rattle.kmipa_object.specs.declared.state.State.{State}
 use Rattle.kmipa_store.specs.Clock.{Awaits, Dues, Time, noted_life, states_at, without}
 use Rattle.kmipa_store.specs.Ledger.{Held, held, relived}
-use Rattle.kmipa_store.specs.Present.{Makes, Standing}
-use Rattle.kmipa_store.specs.declared.changes.ObjectChange.TheVariants.{Added, Replaced}
+use Rattle.kmipa_store.specs.Objects.{become, exchanged}
+use Rattle.kmipa_store.specs.Present.{LogsObjects, Makes, Standing, WritesDown}
+use Rattle.kmipa_store.specs.declared.changes.ObjectChange.{ObjectChange}
+use Rattle.kmipa_store.specs.declared.changes.Place.{Place}
+use Rattle.kmipa_store.specs.declared.changes.ObjectChange.TheVariants.{Added, Replaced, Renewed}
 use Rattle.kmipa_store.specs.declared.clock.Brought.{Brought}
 use Rattle.kmipa_store.specs.declared.fault.StoreFault.{StoreFault}
 use Rattle.kmipa_store.specs.declared.fault.StoreFault.TheVariants.{Memory}
-use Rattle.kmipa_store.proofs.ChangeLemmas.{relived_back}
-use Rattle.kmipa_store.proofs.ClockLemmas.{states_popped, states_pushed, states_relived}
-use Rattle.kmipa_store.proofs.DueLemmas.{awaits_pushed, awaits_relived}
+use Rattle.kmipa_store.proofs.ChangeLemmas.{exchanged_back, exchanged_is, relived_back}
+use Rattle.kmipa_store.proofs.ClockLemmas.{states_exchanged, states_popped, states_pushed, states_relived}
+use Rattle.kmipa_store.proofs.DueLemmas.{awaits_pushed, awaits_relived, awaits_updated}
 
 -- objects and what the clock tells
 abbrev pub stand : List Held → Time → Standing
@@ -39,6 +44,12 @@ pub told_relived : (hs ys : List Held) (place : ℕ) (life : Life) (old new : Ti
 told_relived hs ys place life old new due told f e =
     subst (λ (x : Time). Tells ys x) (sym e)
     (ap (λ (ss : List State). updated ss place (λ _. state (dates_of life) old.moment)) told ∙ sym (states_relived hs place life old.moment) ∙ ap (λ (x : List Held). states_at x old.moment) (sym f))
+
+pub told_exchanged : (hs ys : List Held) (place : ℕ) (h : Held) (old new : Time) (due : Dues) → Tells hs old → ys ≡ exchanged hs place h
+    → new ≡ record old { states = updated old.states place (λ _. state h.card.dates old.moment); due = due } → Tells ys new
+told_exchanged hs ys place h old new due told f e =
+    subst (λ (x : Time). Tells ys x) (sym e)
+    (ap (λ (ss : List State). updated ss place (λ _. state h.card.dates old.moment)) told ∙ sym (states_exchanged hs place h old.moment) ∙ ap (λ (x : List Held). states_at x old.moment) (sym f))
 
 take_before : {X : Type 0} (xs : List X) (x : X) → take (length xs) (xs ++ x ∷ []) ≡ xs
 take_before [] x = refl
@@ -75,6 +86,20 @@ makes_relived hs ys o old new place life states b f at e back =
       (λ a. subst (λ (x : List Held). Awaits x new.due) (sym f) (subst (λ (x : Time). Awaits (relived hs place life) x.due) (sym e) (awaits_relived hs old.moment old.due place life a))),
     )
 
+pub makes_exchanged : (hs ys : List Held) (o : Object) (former : Box Object Global) (g : Held) (old new : Time) (place : ℕ) (states : List State) (b : Brought) → ys ≡ exchanged hs place (held o) → slice_get hs place ≡ Some g
+    → g.card.id ≡ (held o).card.id → held former.value ≡ become (held o) g → new ≡ record old { states = states; due = noted_life old.moment old.due place o.life } → without new.due place b ≡ old.due
+    → Makes (stand hs old) (updated hs place (λ _. held o)) (Ok (Renewed place former b)) (stand ys new)
+makes_exchanged hs ys o former g old new place states b f at same was e back =
+    let moment : new.moment ≡ old.moment = ap (λ (x : Time). x.moment) e in
+    let again : exchanged ys place (held former.value) ≡ hs = ap (λ (x : List Held). exchanged x place (held former.value)) f ∙ exchanged_back hs place g (held o) (held former.value) at was in (
+      f ∙ exchanged_is hs place g (held o) at same,
+      moment,
+      ap (λ (x : List Held). record { dated = record { objects = x; due = without new.due place b }; moment = new.moment }) again
+          ∙ ap (λ (x : Dues). record { dated = record { objects = hs; due = x }; moment = new.moment }) back
+          ∙ ap (λ (x : ℤ). record { dated = record { objects = hs; due = old.due }; moment = x }) moment,
+      (λ a. subst (λ (x : List Held). Awaits x new.due) (sym f) (subst (λ (x : Time). Awaits (exchanged hs place (held o)) x.due) (sym e) (awaits_updated hs old.moment old.due place o.life (λ x. become x (held o)) (λ x. refl) a))),
+    )
+
 pub makes_none : (hs ys wanted : List Held) (old new : Time) (fault : StoreFault) → ys ≡ hs → new ≡ old → fault ≡ Memory → Makes (stand hs old) wanted (Err fault) (stand ys new)
 makes_none hs ys wanted old new fault f e m = (m, ap (λ (x : List Held). stand x new) f ∙ ap (λ (x : Time). stand hs x) e)
 
@@ -88,3 +113,11 @@ removed_same old mid new s place due b e back f =
     ∙ ap (λ (ss : List State). record { moment = mid.moment; states = ss; due = without mid.due place b }) fewer
     ∙ ap (λ (ds : Dues). record { moment = mid.moment; states = old.states; due = ds }) back
     ∙ ap (λ (x : Time). record { moment = x.moment; states = old.states; due = old.due }) e
+
+-- a change that was made, and then written down or taken back
+pub logs_made : (ps : List Place) (x mid y : Standing) (cs ds : List ObjectChange) (wanted : List Held) (change : ObjectChange) (r : Result (Unit {0}) StoreFault)
+    → Makes x wanted (Ok change) mid → WritesDown ps mid cs change r y ds → LogsObjects ps x cs wanted r y ds
+logs_made ps x mid y cs ds wanted change (Ok u) m w =
+    let P : Standing → Type 0 = λ z. LogsObjects ps x cs wanted (Ok u) z ds in
+    subst P (sym w.0) (m.0, m.1, record { change = change; written = w.1; back = ap (λ (s : Standing). s.dated) m.2 }, m.3)
+logs_made ps x mid y cs ds wanted change (Err fault) m w = (w.0, w.1 ∙ m.2, w.2)

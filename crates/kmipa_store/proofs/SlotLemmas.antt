@@ -12,14 +12,14 @@ use Rattle.kmipa_object.proofs.ListLemmas.{get-append_cases, get-append_old, get
 use Rattle.kmipa_store.specs.Hashes.{id_hash, id_number}
 use Rattle.kmipa_object.specs.declared.object.Object.{Object}
 use Rattle.kmipa_store.specs.Ledger.{Held, cards_of, held, relived, with_life}
-use Rattle.kmipa_store.specs.Objects.{Hashed, has_id, hashed_cmp, is_hashed, objects_of}
+use Rattle.kmipa_store.specs.Objects.{Hashed, become, exchanged, has_id, hashed_cmp, is_hashed, objects_of}
 use Rattle.kmipa_store.specs.Slots.{AreAllNoted, AreListed, AreNoted, IsNoted, KeepsBefore, holder, is_before, slot_of}
 use Rattle.kmipa_store.specs.declared.slots.Slots.{Slots}
 use Rattle.kmipa_store.proofs.HashLemmas.{apart_from, found_within, hashed_itself, itself, none_from, none_has, same_id}
 use Rattle.kmipa_store.proofs.NameLemmas.{length-map}
 use Rattle.kmipa_store.proofs.ObjectLemmas.{take-next}
 use Rattle.kmipa_store.proofs.OrderLemmas.{found_inserted, still_found, still_there}
-use Rattle.kmipa_store.proofs.SoundLemmas.{relived_from}
+use Rattle.kmipa_store.proofs.SoundLemmas.{relived_from, updated_from}
 
 -- each identifier has a slot, where there are any
 slot_within : (id : List ℕ) (count : ℕ) → 0 < count → slot_of id count < count
@@ -222,6 +222,22 @@ noted_relived slots hs place life a = record {
       let r = relived_from hs place p life f atp in
       let s = relived_from hs place q life g atq in
       a.distinct p q r.0 s.0 r.1 s.1 (sym (id_stays place p life f r.0 r.2) ∙ same ∙ id_stays place q life g s.0 s.2);
+}
+
+-- another object with its identifier
+id_kept : (place p : ℕ) (x g h : Held) → (g ≡ h) ⊎ ((p ≡ place) × (g ≡ become h x)) → g.card.id ≡ h.card.id
+id_kept place p x g h (inl e) = ap (λ (y : Held). y.card.id) e
+id_kept place p x g h (inr e) = ap (λ (y : Held). y.card.id) e.1
+
+pub noted_exchanged : (slots : Slots) (hs : List Held) (place : ℕ) (x : Held) → AreNoted slots hs → AreNoted slots (exchanged hs place x)
+noted_exchanged slots hs place x a = record {
+  noted = λ p g at.
+      let r = updated_from hs place p (λ y. become y x) g at in
+      subst (λ (id : List ℕ). IsNoted slots id p) (sym (id_kept place p x g r.0 r.2)) (a.noted p r.0 r.1);
+  distinct = λ p q f g atp atq same.
+      let r = updated_from hs place p (λ y. become y x) f atp in
+      let s = updated_from hs place q (λ y. become y x) g atq in
+      a.distinct p q r.0 s.0 r.1 s.1 (sym (id_kept place p x f r.0 r.2) ∙ same ∙ id_kept place q x g s.0 s.2);
 }
 
 -- before its place no object has its identifier

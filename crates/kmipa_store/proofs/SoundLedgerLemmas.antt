@@ -32,25 +32,25 @@ marks_extend ss ts (m ∷ marks) e h = (h.0, extends_more m.secrets ss ts h.1 e,
 
 -- bytes that are learned
 learned_of : (m : Meaning) (number : ℕ) (bytes : List ℕ) (k : Known) (known : Option (List ℕ)) → IsSound m → All (λ b. b < 256) bytes → slice_get m.secrets number ≡ Some k → k.bytes ≡ known
-    → differs_from known bytes ≡ false → (is_none known && not (admits k.rule bytes)) ≡ false → IsSound (record { objects = m.objects; secrets = told m.secrets number bytes })
+    → differs_from known bytes ≡ false → (is_none known && not (admits k.rule bytes)) ≡ false → IsSound (record { objects = m.objects; secrets = told m.secrets number bytes; aside = m.aside })
 learned_of m number bytes k None sound small at is d b = sound_told m number k bytes sound at is (record { admitted = not-false (admits k.rule bytes) b; small = small })
 learned_of m number bytes k (Some x) sound small at is d b =
     let equal : x ≡ bytes = (bytes_eq-Decides x bytes).0 (not-false (bytes_eq x bytes) d) in
     let same : told m.secrets number bytes ≡ m.secrets = updated-same m.secrets number (λ (y : Known). record { rule = y.rule; bytes = Some bytes })
     (λ y e. let q : Some k ≡ Some y = sym at ∙ e in let r : k ≡ y = cc in ap (λ (o : Option (List ℕ)). record { rule = y.rule; bytes = o }) (ap Some (sym equal) ∙ sym is ∙ ap (λ (z : Known). z.bytes) r)) in
-    let P : List Known → Type 0 = λ x. IsSound (record { objects = m.objects; secrets = x }) in
+    let P : List Known → Type 0 = λ x. IsSound (record { objects = m.objects; secrets = x; aside = m.aside }) in
     subst P (sym same) sound
 
 learned_at : (m : Meaning) (number : ℕ) (bytes : List ℕ) (o : Option Known) → IsSound m → All (λ b. b < 256) bytes → slice_get m.secrets number ≡ o
-    → differs o bytes ≡ false → breaks o bytes ≡ false → IsSound (record { objects = m.objects; secrets = told m.secrets number bytes })
+    → differs o bytes ≡ false → breaks o bytes ≡ false → IsSound (record { objects = m.objects; secrets = told m.secrets number bytes; aside = m.aside })
 learned_at m number bytes None sound small at d b =
     let same : told m.secrets number bytes ≡ m.secrets = updated-none m.secrets number (λ (y : Known). record { rule = y.rule; bytes = Some bytes }) at in
-    let P : List Known → Type 0 = λ x. IsSound (record { objects = m.objects; secrets = x }) in
+    let P : List Known → Type 0 = λ x. IsSound (record { objects = m.objects; secrets = x; aside = m.aside }) in
     subst P (sym same) sound
 learned_at m number bytes (Some k) sound small at d b = learned_of m number bytes k k.bytes sound small at refl d b
 
 pub sound_learned : (m : Meaning) (number : ℕ) (bytes : List ℕ) → IsSound m → All (λ b. b < 256) bytes → differs (slice_get m.secrets number) bytes ≡ false → breaks (slice_get m.secrets number) bytes ≡ false
-    → IsSound (record { objects = m.objects; secrets = told m.secrets number bytes })
+    → IsSound (record { objects = m.objects; secrets = told m.secrets number bytes; aside = m.aside })
 sound_learned m number bytes sound small d b = learned_at m number bytes (slice_get m.secrets number) sound small refl d b
 
 pub sound_kept : (now : Meaning) (marks : List Meaning) → IsSound now → MarksAreSound now.secrets marks → IsSoundLedger (kept_from now marks)

@@ -1,13 +1,16 @@
 -- What keeps a ledger sound.
-use Rattle.std.proofs.Common.{◌≡◌, ◌<◌, ◌⊎◌, ℕ, zero, suc, is_none, Bool, true, false, List, [], ◌∷◌, ◌++◌, length, slice_get, Option, Some, None, option_map, refl, ap, sym, ◌∙◌, subst, inl, inr}
+use Rattle.std.proofs.Common.{◌≡◌, ◌≢◌, ◌<◌, ◌⊎◌, ℕ, zero, suc, is_none, Bool, true, false, List, [], ◌∷◌, ◌++◌, length, slice_get, Option, Some, None, option_map, refl, ap, sym, ◌∙◌, subst, inl, inr}
+use Rattle.std.proofs.lemmas.Bool.Decides.{eqb_tells}
+use Rattle.kmipa_object.specs.Lists.{updated}
 use Rattle.kmipa_object.specs.Inventory.{Thing, Admitted, HasBytes, IsInventory, live, rule_of, possible}
 use Rattle.kmipa_object.specs.declared.rule.Rule.{Rule}
 use Rattle.kmipa_object.specs.declared.life.Life.{Life}
 use Rattle.kmipa_object.specs.declared.life.Material.{Material}
 use Rattle.kmipa_object.specs.declared.life.Material.TheVariants.{Gone, Secret}
 use Rattle.kmipa_object.specs.declared.life.SecretNo.{SecretNo}
-use Rattle.kmipa_object.proofs.ListLemmas.{get_below, get-append_cases}
+use Rattle.kmipa_object.proofs.ListLemmas.{get_below, get-append_cases, get-updated_other}
 use Rattle.kmipa_object.proofs.RuleLemmas.{possible_admits}
+use Rattle.kmipa_store.specs.Aside.{AsideOf, nothing_aside}
 use Rattle.kmipa_store.specs.Ledger.{Held, Known, Meaning, relived, told, with_life}
 use Rattle.kmipa_store.specs.Choices.{Choice, Chooses, Suits, InRange, GoneIfDestroyed, IsSound, Extends, inv, thing, bytes_of}
 use Rattle.kmipa_store.specs.Soundness.{Fits}
@@ -52,7 +55,7 @@ inventory_of m c sound h = record {
 }
 
 -- a ledger without objects and secrets
-pub sound_none : IsSound (record { objects = []; secrets = [] })
+pub sound_none : IsSound (record { objects = []; secrets = []; aside = nothing_aside })
 sound_none = record {
   in_range = record { there = λ p h n at mat. let bad : ⊥ = cc in absurd bad };
   gone = λ p h at. let bad : ⊥ = cc in absurd bad;
@@ -61,7 +64,7 @@ sound_none = record {
 }
 
 -- one more secret
-pub sound_with_secret : (m : Meaning) (rule : Rule) → IsSound m → possible rule ≡ true → IsSound (record { objects = m.objects; secrets = m.secrets ++ record { rule = rule; bytes = None } ∷ [] })
+pub sound_with_secret : (m : Meaning) (rule : Rule) → IsSound m → possible rule ≡ true → IsSound (record { objects = m.objects; secrets = m.secrets ++ record { rule = rule; bytes = None } ∷ []; aside = m.aside })
 sound_with_secret m rule sound may =
     let s : Known = record { rule = rule; bytes = None } in
     let b = possible_admits rule may in
@@ -75,7 +78,7 @@ sound_with_secret m rule sound may =
 
 -- an unknown secret that is told bytes that its rule admits
 pub sound_told : (m : Meaning) (number : ℕ) (s : Known) (bytes : List ℕ) → IsSound m → slice_get m.secrets number ≡ Some s → s.bytes ≡ None → Admitted s.rule bytes
-    → IsSound (record { objects = m.objects; secrets = told m.secrets number bytes })
+    → IsSound (record { objects = m.objects; secrets = told m.secrets number bytes; aside = m.aside })
 sound_told m number s bytes sound at none admitted =
     let suits : Suits s bytes = record { admitted = admitted; known = λ k e. let clash : None ≡ Some k = sym none ∙ e in cc } in
     let c = override sound.choice.0 number bytes in
@@ -88,7 +91,7 @@ sound_told m number s bytes sound at none admitted =
 
 -- one more object, of an identifier that no other has
 pub sound_added : (m : Meaning) (h : Held) → IsSound m → ((p : ℕ) (g : Held) → slice_get m.objects p ≡ Some g → g.card.id ≡ h.card.id → ⊥) → Fits h m.secrets
-    → IsSound (record { objects = m.objects ++ h ∷ []; secrets = m.secrets })
+    → IsSound (record { objects = m.objects ++ h ∷ []; secrets = m.secrets; aside = m.aside })
 sound_added m h sound fresh fit = record {
   in_range = record {
     there = λ p g n at mat. elim (get-append_cases m.objects h p g at) [
@@ -113,16 +116,25 @@ sound_added m h sound fresh fit = record {
   choice = sound.choice;
 }
 
+-- an element after one was changed
+module _ {X : Type 0} where
+  pub updated_from : (xs : List X) (place p : ℕ) (f : X → X) (g : X) → slice_get (updated xs place f) p ≡ Some g → (h : X) × (slice_get xs p ≡ Some h) × ((g ≡ h) ⊎ ((p ≡ place) × (g ≡ f h)))
+  updated_from [] place p f g e = let bad : ⊥ = cc in absurd bad
+  updated_from (x ∷ xs) zero zero f g e = (x, refl, inr (refl, cc))
+  updated_from (x ∷ xs) zero (suc p) f g e = (g, e, inl refl)
+  updated_from (x ∷ xs) (suc place) zero f g e = (x, refl, inl cc)
+  updated_from (x ∷ xs) (suc place) (suc p) f g e =
+      let r = updated_from xs place p f g e in
+      (r.0, r.1, elim r.2 [ inl a ↦ inl a | inr b ↦ inr (ap suc b.0, b.1) ])
+
+  -- one at another place, or the one that was changed
+  pub updated_cases : (xs : List X) (place p : ℕ) (f : X → X) (g : X) → slice_get (updated xs place f) p ≡ Some g → ((p ≢ place) × (slice_get xs p ≡ Some g)) ⊎ (p ≡ place)
+  updated_cases xs place p f g e = elim (eqb_tells p place) [ inl t ↦ inr t.1 | inr n ↦ inl (n.1, sym (get-updated_other xs place p f n.1) ∙ e) ]
+
 -- an object after one led another life
 pub relived_from : (hs : List Held) (place p : ℕ) (life : Life) (g : Held) → slice_get (relived hs place life) p ≡ Some g
     → (h : Held) × (slice_get hs p ≡ Some h) × ((g ≡ h) ⊎ ((p ≡ place) × (g ≡ with_life h life)))
-relived_from [] place p life g e = let bad : ⊥ = cc in absurd bad
-relived_from (x ∷ hs) zero zero life g e = (x, refl, inr (refl, cc))
-relived_from (x ∷ hs) zero (suc p) life g e = (g, e, inl refl)
-relived_from (x ∷ hs) (suc place) zero life g e = (x, refl, inl cc)
-relived_from (x ∷ hs) (suc place) (suc p) life g e =
-    let r = relived_from hs place p life g e in
-    (r.0, r.1, elim r.2 [ inl a ↦ inl a | inr b ↦ inr (ap suc b.0, b.1) ])
+relived_from hs place p life g e = updated_from hs place p (λ h. with_life h life) g e
 
 same_id : (life : Life) (place p : ℕ) (g h : Held) → (g ≡ h) ⊎ ((p ≡ place) × (g ≡ with_life h life)) → g.card.id ≡ h.card.id
 same_id life place p g h (inl a) = ap (λ (x : Held). x.card.id) a
@@ -130,7 +142,7 @@ same_id life place p g h (inr b) = ap (λ (x : Held). x.card.id) b.1
 
 -- an object leads another life, with its own secret or none
 pub sound_relived : (m : Meaning) (place : ℕ) (h : Held) (life : Life) → IsSound m → slice_get m.objects place ≡ Some h → GoneIfDestroyed (is_none life.destroy) life.material
-    → ((secret : SecretNo) → life.material ≡ Secret secret → h.material ≡ Secret secret) → IsSound (record { objects = relived m.objects place life; secrets = m.secrets })
+    → ((secret : SecretNo) → life.material ≡ Secret secret → h.material ≡ Secret secret) → IsSound (record { objects = relived m.objects place life; secrets = m.secrets; aside = m.aside })
 sound_relived m place h life sound at gone own = record {
   in_range = record {
     there = λ p g n e mat.
@@ -154,3 +166,39 @@ sound_relived m place h life sound at gone own = record {
       sound.distinct p q r.0 s.0 r.1 s.1 (sym (same_id life place p f r.0 r.2) ∙ same ∙ same_id life place q g s.0 s.2);
   choice = sound.choice;
 }
+
+-- another object of the same identifier, with a secret that is there or none
+renewed_id : (m : Meaning) (place : ℕ) (g h : Held) (p : ℕ) (x y : Held) → slice_get m.objects place ≡ Some g → g.card.id ≡ h.card.id → slice_get m.objects p ≡ Some y
+    → (x ≡ y) ⊎ ((p ≡ place) × (x ≡ h)) → x.card.id ≡ y.card.id
+renewed_id m place g h p x y at same there (inl a) = ap (λ (z : Held). z.card.id) a
+renewed_id m place g h p x y at same there (inr b) =
+    let both : Some g ≡ Some y = sym at ∙ ap (slice_get m.objects) (sym b.0) ∙ there in
+    let is : g ≡ y = cc in
+    ap (λ (z : Held). z.card.id) b.1 ∙ sym same ∙ ap (λ (z : Held). z.card.id) is
+
+pub sound_renewed : (m : Meaning) (place : ℕ) (g h : Held) → IsSound m → slice_get m.objects place ≡ Some g → g.card.id ≡ h.card.id → Fits h m.secrets
+    → IsSound (record { objects = updated m.objects place (λ _. h); secrets = m.secrets; aside = m.aside })
+sound_renewed m place g h sound at same fit = record {
+  in_range = record {
+    there = λ p x n e mat.
+        let r = updated_from m.objects place p (λ _. h) x e in
+        let P : Held → Type 0 = λ z. (known : Option (List ℕ)) × (slice_get m.secrets n.number ≡ Some (record { rule = rule_of z.card; bytes = known })) in
+        elim r.2 [
+          | inl a ↦ subst P (sym a) (sound.in_range.there p r.0 n r.1 (ap (λ (z : Held). z.material) (sym a) ∙ mat))
+          | inr b ↦ subst P (sym b.1) (fit.there n (ap (λ (z : Held). z.material) (sym b.1) ∙ mat))
+        ];
+  };
+  gone = λ p x e.
+      let r = updated_from m.objects place p (λ _. h) x e in
+      let P : Held → Type 0 = λ z. GoneIfDestroyed (live z.card) z.material in
+      elim r.2 [ inl a ↦ subst P (sym a) (sound.gone p r.0 r.1) | inr b ↦ subst P (sym b.1) fit.gone ];
+  distinct = λ p q x y e d alike.
+      let r = updated_from m.objects place p (λ _. h) x e in
+      let s = updated_from m.objects place q (λ _. h) y d in
+      sound.distinct p q r.0 s.0 r.1 s.1 (sym (renewed_id m place g h p x r.0 at same r.1 r.2) ∙ alike ∙ renewed_id m place g h q y s.0 at same s.1 s.2);
+  choice = sound.choice;
+}
+
+-- whatever is set aside
+pub sound_aside : (m : Meaning) (a : AsideOf) → IsSound m → IsSound (record { objects = m.objects; secrets = m.secrets; aside = a })
+sound_aside m a sound = record { in_range = sound.in_range; gone = sound.gone; distinct = sound.distinct; choice = sound.choice }

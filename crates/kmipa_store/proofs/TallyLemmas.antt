@@ -7,6 +7,7 @@ use Rattle.std.proofs.lemmas.Bool.Decides.{nat_tests}
 use Rattle.std.proofs.lemmas.List.{take_all}
 use Rattle.kmipa_attrs.specs.Sets.{NameOf}
 use Rattle.kmipa_object.specs.Inventory.{live}
+use Rattle.kmipa_object.specs.Lists.{updated}
 use Rattle.kmipa_object.specs.declared.life.Life.{Life}
 use Rattle.kmipa_object.proofs.ListLemmas.{get-append_last, get-updated_same}
 use Rattle.kmipa_store.specs.Ledger.{Held, relived, with_life}
@@ -72,15 +73,15 @@ pub all_pushed : (k : ℕ) (hs : List Held) (h : Held) → all_with k (hs ++ h �
 all_pushed k [] h = refl
 all_pushed k (g ∷ hs) h = let i = all_pushed k hs h in omega (arith, i)
 
-pub all_relived : (k : ℕ) (hs : List Held) (place : ℕ) (h : Held) (life : Life) → slice_get hs place ≡ Some h
-    → live_with k h + all_with k (relived hs place life) ≡ live_with k (with_life h life) + all_with k hs
-all_relived k [] place h life at = cc
-all_relived k (g ∷ hs) zero h life at =
+pub all_updated : (k : ℕ) (hs : List Held) (place : ℕ) (h : Held) (f : Held → Held) → slice_get hs place ≡ Some h
+    → live_with k h + all_with k (updated hs place f) ≡ live_with k (f h) + all_with k hs
+all_updated k [] place h f at = cc
+all_updated k (g ∷ hs) zero h f at =
     let is : g ≡ h = cc in
-    let a : live_with k (with_life g life) ≡ live_with k (with_life h life) = ap (λ (x : Held). live_with k (with_life x life)) is in
+    let a : live_with k (f g) ≡ live_with k (f h) = ap (λ (x : Held). live_with k (f x)) is in
     let b : live_with k g ≡ live_with k h = ap (live_with k) is in
     omega (arith, a, b)
-all_relived k (g ∷ hs) (suc place) h life at = let i = all_relived k hs place h life at in omega (arith, i)
+all_updated k (g ∷ hs) (suc place) h f at = let i = all_updated k hs place h f at in omega (arith, i)
 
 pub all_popped : (k : ℕ) (hs : List Held) (last : ℕ) (h : Held) → length hs ≡ suc last → slice_get hs last ≡ Some h → live_with k h + all_with k (take last hs) ≡ all_with k hs
 all_popped k [] last h l at = absurd (omega (arith, l))
@@ -101,14 +102,14 @@ counts_pushed old new hs h c r = record {
 pub counts_all : (t : Tally) (hs : List Held) (i : ℕ) → length hs ≤ i → Counts t (take i hs) → Counts t hs
 counts_all t hs i past c = subst (λ (x : List Held). Counts t x) (take_all i hs past) c
 
-pub counts_relived : (old mid new : Tally) (hs : List Held) (place : ℕ) (h : Held) (life : Life) → Counts old hs → slice_get hs place ≡ Some h
-    → Lowers old (λ k. live_with k h) mid → Raises mid (λ k. live_with k (with_life h life)) new → Counts new (relived hs place life)
-counts_relived old mid new hs place h life c at l r = record {
+pub counts_updated : (old mid new : Tally) (hs : List Held) (place : ℕ) (h : Held) (f : Held → Held) → Counts old hs → slice_get hs place ≡ Some h
+    → Lowers old (λ k. live_with k h) mid → Raises mid (λ k. live_with k (f h)) new → Counts new (updated hs place f)
+counts_updated old mid new hs place h f c at l r = record {
   all = λ e k.
-      let a : count_at new k ≡ live_with k (with_life h life) + count_at mid k = r.counts e k in
+      let a : count_at new k ≡ live_with k (f h) + count_at mid k = r.counts e k in
       let b = l.counts (r.was e) k in
       let d = c.all (l.was (r.was e)) k in
-      let s = all_relived k hs place h life at in
+      let s = all_updated k hs place h f at in
       omega (arith, a, b, d, s);
 }
 
@@ -166,13 +167,18 @@ counts_more old new hs ys h g place c e at is r =
     let same : h ≡ g = cc in
     subst (λ (x : List Held). Counts new x) (ap (λ (x : Held). hs ++ x ∷ []) (sym same) ∙ sym e) (counts_pushed old new hs g c r)
 
--- an object that leads another life, found at its place
+-- an object that was changed, found at its place
+pub counts_changed : (old mid new : Tally) (hs ys : List Held) (place : ℕ) (h g : Held) (f : Held → Held) → Counts old hs → slice_get hs place ≡ Some h → ys ≡ updated hs place f → slice_get ys place ≡ Some g
+    → Lowers old (λ k. live_with k h) mid → Raises mid (λ k. live_with k g) new → Counts new ys
+counts_changed old mid new hs ys place h g f c at e is l r =
+    let one : Some (f h) ≡ Some g = sym (get-updated_same hs place f h at) ∙ ap (λ (x : List Held). slice_get x place) (sym e) ∙ is in
+    let same : f h ≡ g = cc in
+    subst (λ (x : List Held). Counts new x) (sym e) (counts_updated old mid new hs place h f c at l (subst (λ (x : Held). Raises mid (λ k. live_with k x) new) (sym same) r))
+
+-- one that leads another life
 pub counts_led : (old mid new : Tally) (hs ys : List Held) (place : ℕ) (h g : Held) (life : Life) → Counts old hs → slice_get hs place ≡ Some h → ys ≡ relived hs place life → slice_get ys place ≡ Some g
     → Lowers old (λ k. live_with k h) mid → Raises mid (λ k. live_with k g) new → Counts new ys
-counts_led old mid new hs ys place h g life c at e is l r =
-    let one : Some (with_life h life) ≡ Some g = sym (get-updated_same hs place (λ x. with_life x life) h at) ∙ ap (λ (x : List Held). slice_get x place) (sym e) ∙ is in
-    let same : with_life h life ≡ g = cc in
-    subst (λ (x : List Held). Counts new x) (sym e) (counts_relived old mid new hs place h life c at l (subst (λ (x : Held). Raises mid (λ k. live_with k x) new) (sym same) r))
+counts_led old mid new hs ys place h g life c at e is l r = counts_changed old mid new hs ys place h g (λ x. with_life x life) c at e is l r
 
 -- an object fewer
 pub counts_fewer : (old new : Tally) (hs ys : List Held) (count last : ℕ) (h : Held) → Counts old hs → count ≡ length hs → (1 ≤ count) × (last ≡ count - 1) → slice_get hs last ≡ Some h → ys ≡ take (length hs - 1) hs

@@ -5,7 +5,7 @@ use Rattle.kmipa_object.specs.declared.life.Life.{Life}
 use Rattle.kmipa_object.specs.declared.life.SecretNo.{SecretNo}
 use Rattle.kmipa_object.specs.declared.rule.Rule.{Rule}
 use Rattle.kmipa_store.specs.Memory.{RefusedForMemory}
-use Rattle.kmipa_store.specs.Ledger.{LedgerState, Held, Known, cards_of, place_of, added, replaced, with_secret, learned, marked}
+use Rattle.kmipa_store.specs.Ledger.{LedgerState, Held, Known, cards_of, place_of, added, replaced, renewed, with_secret, learned, set_aside, taken_in, marked}
 use Rattle.kmipa_store.specs.declared.fault.StoreFault.{StoreFault}
 use Rattle.kmipa_store.specs.declared.fault.StoreFault.TheVariants.{IdentifierTaken, BytesDiffer, LengthImpossible, Memory}
 use Rattle.kmipa_store.specs.declared.ledger.Mark.{Mark}
@@ -26,6 +26,11 @@ Adds s h (Err Memory) t = (is_taken s h.card.id ≡ false) × (t ≡ s)
 abbrev pub Replaces : LedgerState → ℕ → Life → Result (Unit {0}) StoreFault → LedgerState → Type 0
 Replaces s place life (Ok u) t = t ≡ replaced s place life
 Replaces s place life (Err fault) t = RefusedForMemory fault s t
+
+-- `renew`
+abbrev pub Renews : LedgerState → ℕ → Held → Result (Unit {0}) StoreFault → LedgerState → Type 0
+Renews s place h (Ok u) t = t ≡ renewed s place h
+Renews s place h (Err fault) t = RefusedForMemory fault s t
 
 -- `new_secret`: where the rule admits some bytes, the new secret has the next number
 abbrev pub MakesSecret : LedgerState → Rule → Result SecretNo StoreFault → LedgerState → Type 0
@@ -63,6 +68,16 @@ Learns s number bytes (Err BytesDiffer) t = (differs (slice_get s.now.secrets nu
 Learns s number bytes (Err LengthImpossible) t = (breaks (slice_get s.now.secrets number) bytes ≡ true) × (t ≡ s)
 Learns s number bytes (Err Memory) t =
     (is_unknown (slice_get s.now.secrets number) ≡ true) × (breaks (slice_get s.now.secrets number) bytes ≡ false) × (t ≡ s)
+
+-- `set_aside`
+abbrev pub SetsAside : LedgerState → List ℕ → Result (Unit {0}) StoreFault → LedgerState → Type 0
+SetsAside s id (Ok u) t = t ≡ set_aside s id
+SetsAside s id (Err fault) t = RefusedForMemory fault s t
+
+-- `take_in`
+abbrev pub TakesIn : LedgerState → List ℕ → Result (Unit {0}) StoreFault → LedgerState → Type 0
+TakesIn s id (Ok u) t = t ≡ taken_in s id
+TakesIn s id (Err fault) t = RefusedForMemory fault s t
 
 -- `mark`: the mark knows how many stand
 abbrev pub SetsMark : LedgerState → Result Mark StoreFault → LedgerState → Type 0

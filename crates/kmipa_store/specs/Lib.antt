@@ -1,3 +1,4 @@
+pub mod Aside
 pub mod Ledger
 pub mod Faults
 pub mod Memory
@@ -7,6 +8,7 @@ pub mod Choices
 pub mod Objects
 pub mod Slots
 pub mod Secrets
+pub mod AsideIds
 pub mod Hashes
 pub mod Histories
 pub mod Clock

@@ -40,3 +40,11 @@ Notes old place ns (Err fault) new = (fault ≡ Memory) × Keeps old new
 -- each name of each object is listed
 pub record Covers (names : Names) (objects : List Held) : Type 0 where
   pub all : (p : ℕ) (h : Held) → slice_get objects p ≡ Some h → AreListed names p h.card.given.names
+
+-- so it is, unless a name of what went back to a mark found no memory
+abbrev pub Knows : Bool → Names → List Held → Type 0
+Knows listed names objects = listed ≡ true → Covers names objects
+
+-- these names are listed, as ones of the object at this place; it is answered that all are, if they were, unless one found no memory
+abbrev pub ListsAgain : Names → Bool → ℕ → List NameOf → Bool → Names → Type 0
+ListsAgain old listed place ns result new = result ≡ true → (listed ≡ true) × Keeps old new × AreListed new place ns

@@ -2,9 +2,10 @@
 use Rattle.std.specs.Prelude.{◌≡◌, ◌-◌, ℕ, ℤ, List, [], ◌∷◌, ◌++◌, length, take, slice_get, Some, Result, Ok, Err}
 use Rattle.kmipa_store.specs.Clock.{Awaits, Dues, without}
 use Rattle.kmipa_store.specs.Histories.{Logged, while_marked}
-use Rattle.kmipa_store.specs.Ledger.{Held, relived}
+use Rattle.kmipa_store.specs.Ledger.{Held, held, relived}
+use Rattle.kmipa_store.specs.Objects.{exchanged}
 use Rattle.kmipa_store.specs.declared.changes.ObjectChange.{ObjectChange}
-use Rattle.kmipa_store.specs.declared.changes.ObjectChange.TheVariants.{Added, Replaced}
+use Rattle.kmipa_store.specs.declared.changes.ObjectChange.TheVariants.{Added, Replaced, Renewed}
 use Rattle.kmipa_store.specs.declared.changes.Place.{Place}
 use Rattle.kmipa_store.specs.declared.fault.StoreFault.{StoreFault}
 use Rattle.kmipa_store.specs.declared.fault.StoreFault.TheVariants.{Memory}
@@ -22,6 +23,7 @@ pub record Standing : Type 0 where
 abbrev pub dated_unmade : Dated → ObjectChange → Dated
 dated_unmade d (Added brought) = record { objects = take (length d.objects - 1) d.objects; due = without d.due (length d.objects - 1) brought }
 dated_unmade d (Replaced place life brought) = record { objects = relived d.objects place life; due = without d.due place brought }
+dated_unmade d (Renewed place former brought) = record { objects = exchanged d.objects place (held former.value); due = without d.due place brought }
 
 -- the moment stays
 abbrev pub standing_unmade : Standing → ObjectChange → Standing

@@ -1,12 +1,15 @@
-//! Changes of objects and of secrets, written down so that they can be taken back.
+//! Changes of objects, of secrets and of what is set aside, written down so that they can be taken back.
 
-ghost use Rattle.std.specs.Prelude.{◌≡◌, ◌<◌, ◌≤◌, ◌++◌, ◌∷◌, [], true, length, slice_get, string_bytes, None};
-ghost use Rattle.kmipa_store.specs.Ledger.{held, cards_of, place_of, relived, told};
+ghost use Rattle.std.specs.Prelude.{◌≡◌, ◌<◌, ◌≤◌, ◌++◌, ◌∷◌, [], true, length, slice_get, string_bytes, Some, None};
+ghost use Rattle.kmipa_object.specs.Lists.{updated};
+ghost use Rattle.kmipa_store.specs.AsideIds.{aside_unmade, entry_place, said};
+ghost use Rattle.kmipa_store.specs.Ledger.{held, cards_of, id_at, place_of, relived, told};
 ghost use Rattle.kmipa_store.specs.Calls.{is_unknown};
 ghost use Rattle.kmipa_store.specs.Histories.{Logs, RolledTo, while_marked};
 ghost use Rattle.kmipa_store.specs.Journal.{secret_unmade};
 ghost use Rattle.kmipa_store.specs.Present.{LogsObjects, WritesDown};
 
+use crate::aside_ids::AsideIds;
 use crate::clock::Brought;
 use crate::fault::StoreFault;
 use crate::present::Present;
@@ -14,12 +17,14 @@ use crate::secrets::Secrets;
 use kmipa_object::{Life, Object, Rule};
 
 /// A change of the objects, and the dates that it brought.
-#[derive(Clone, Copy, PartialEq, Eq)]
+#[derive(Drop)]
 pub enum ObjectChange {
     /// An object was added.
     Added(Brought),
     /// The object at a place led this life before.
     Replaced(usize, Life, Brought),
+    /// The object at a place was this one before.
+    Renewed(usize, Box<Object>, Brought),
 }
 
 /// A change of the secrets.
@@ -31,11 +36,23 @@ pub enum SecretChange {
     Learned(usize),
 }
 
-/// A mark: how many changes there were.
+/// A change of the identifiers that are set aside.
+#[derive(Clone, Copy, PartialEq, Eq)]
+pub enum AsideChange {
+    /// One was set aside that never was.
+    Added,
+    /// Whether the one at a place was set aside before.
+    Said(usize, bool),
+}
+
+/// A mark: how many changes there were, whether the rest was set aside, and whether judging was over.
 #[derive(Clone, Copy, PartialEq, Eq)]
 pub struct Place {
     pub objects: usize,
     pub secrets: usize,
+    pub asides: usize,
+    pub rest: bool,
+    pub over: bool,
 }
 
 /// What can take changes back.
@@ -53,6 +70,17 @@ impl Undo<SecretChange> for Secrets {
         match change {
             SecretChange::Made => self.pop(),
             SecretChange::Learned(number) => self.forget(number),
+        }
+    }
+}
+
+impl Undo<AsideChange> for AsideIds {
+    ghost unmade = { aside_unmade };
+
+    fn take_back(&mut self, change: AsideChange) {
+        match change {
+            AsideChange::Added => self.pop(),
+            AsideChange::Said(place, before) => self.say(place, before),
         }
     }
 }
@@ -110,6 +138,23 @@ pub fn set_life(
     write_down(present, changes, places, change)
 }
 
+/// Puts another object of the same identifier at a place, and writes that down, or neither.
+pub fn renew_object(
+    present: &mut Present,
+    changes: &mut Vec<ObjectChange>,
+    places: &Vec<Place>,
+    place: usize,
+    object: Object,
+) -> Result<(), StoreFault>
+    requires there { place < length present.old.dated.objects }
+    requires same { id_at present.old.dated.objects place ≡ Some (string_bytes object.id) }
+    ensures { LogsObjects places.now.items present.old changes.old.items
+        (updated present.old.dated.objects place (λ _. held object)) result present.new changes.new.items }
+{
+    let change = present.renew(place, object)?;
+    write_down(present, changes, places, change)
+}
+
 /// Writes down a change that was just made, or takes it back.
 fn write_down(
     present: &mut Present,
@@ -124,8 +169,8 @@ fn write_down(
             forget_unmarked(changes, places);
             Ok(())
         }
-        Err(_) => {
-            present.take_back(change);
+        Err(unwritten) => {
+            present.take_back(unwritten.value);
             Err(StoreFault::Memory)
         }
     }
@@ -169,6 +214,49 @@ pub fn tell_secret(
 {
     changes.push(SecretChange::Learned(number))?;
     secrets.tell(number, bytes);
+    forget_unmarked(changes, places);
+    Ok(())
+}
+
+/// Sets an identifier aside that never was, and writes that down, or neither.
+pub fn push_aside(
+    asides: &mut AsideIds,
+    changes: &mut Vec<AsideChange>,
+    places: &Vec<Place>,
+    id: &str,
+) -> Result<(), StoreFault>
+    requires { entry_place id.now asides.old ≡ None }
+    ensures { Logs aside_unmade places.now.items asides.old changes.old.items
+        (asides.old ++ (id.now, true) ∷ []) result asides.new changes.new.items }
+{
+    changes.push(AsideChange::Added)?;
+    match asides.push(id) {
+        Ok(()) => {
+            forget_unmarked(changes, places);
+            Ok(())
+        }
+        Err(fault) => {
+            let _ = changes.pop();
+            Err(fault)
+        }
+    }
+}
+
+/// Sets the identifier at a place aside or takes it in, and writes that down, or neither.
+pub fn say_aside(
+    asides: &mut AsideIds,
+    changes: &mut Vec<AsideChange>,
+    places: &Vec<Place>,
+    place: usize,
+    aside: bool,
+) -> Result<(), StoreFault>
+    requires { place < length asides.old }
+    ensures { Logs aside_unmade places.now.items asides.old changes.old.items
+        (said asides.old place aside) result asides.new changes.new.items }
+{
+    let before = asides.is_at(place);
+    changes.push(AsideChange::Said(place, before))?;
+    asides.say(place, aside);
     forget_unmarked(changes, places);
     Ok(())
 }

@@ -1,5 +1,6 @@
 //! A ledger of which each mark is a whole copy.
 
+use crate::aside_ids::AsideIds;
 use crate::fault::StoreFault;
 use crate::feature::Feature;
 use crate::ledger::{Ledger, Mark};
@@ -15,6 +16,9 @@ pub struct Copies {
     moment: i64,
     objects: Objects,
     secrets: Secrets,
+    asides: AsideIds,
+    rest: bool,
+    over: bool,
     marks: Vec<Saved>,
 }
 
@@ -23,15 +27,19 @@ pub struct Copies {
 pub struct Saved {
     objects: Objects,
     secrets: Secrets,
+    asides: AsideIds,
+    rest: bool,
+    over: bool,
 }
 
 impl Copies {
     ghost use Rattle.std.specs.Prelude.{◌≡◌, pos, []};
+    ghost use Rattle.kmipa_store.specs.Aside.{nothing_aside};
     ghost use Rattle.kmipa_store.specs.States.{moment_of_copies, state_of_copies};
 
-    /// A ledger without objects, secrets and marks.
+    /// A ledger without objects, secrets and marks, where nothing is set aside.
     pub fn new(alloc: Global) -> Copies
-        ensures meaning { state_of_copies result ≡ record { now = record { objects = []; secrets = [] }; marks = [] } }
+        ensures meaning { state_of_copies result ≡ record { now = record { objects = []; secrets = []; aside = nothing_aside }; marks = [] } }
         ensures moment { moment_of_copies result ≡ pos 0 }
     {
         Copies {
@@ -39,6 +47,9 @@ impl Copies {
             moment: 0,
             objects: Objects::new(alloc),
             secrets: Secrets::new(alloc),
+            asides: AsideIds::new(alloc),
+            rest: false,
+            over: false,
             marks: Vec::new(alloc),
         }
     }
@@ -107,6 +118,12 @@ impl Ledger for Copies {
         Ok(())
     }
 
+    fn renew(&mut self, place: usize, object: Object) -> Result<(), StoreFault> {
+        let mut other = object;
+        self.objects.exchange(place, &mut other);
+        Ok(())
+    }
+
     fn new_secret(&mut self, rule: Rule) -> Result<SecretNo, StoreFault> {
         if !rule.is_possible() {
             return Err(StoreFault::LengthImpossible);
@@ -132,10 +149,58 @@ impl Ledger for Copies {
         }
     }
 
+    fn is_aside(&self, id: &str) -> bool {
+        self.asides.is_aside(id)
+    }
+
+    fn is_rest_aside(&self) -> bool {
+        self.rest
+    }
+
+    fn is_over(&self) -> bool {
+        self.over
+    }
+
+    fn is_any_aside(&self) -> bool {
+        self.asides.is_any() || self.rest || self.over
+    }
+
+    fn set_aside(&mut self, id: &str) -> Result<(), StoreFault> {
+        match self.asides.find(id) {
+            Some(place) => {
+                self.asides.say(place, true);
+                Ok(())
+            }
+            None => self.asides.push(id),
+        }
+    }
+
+    fn take_in(&mut self, id: &str) -> Result<(), StoreFault> {
+        if let Some(place) = self.asides.find(id) {
+            self.asides.say(place, false);
+        }
+        Ok(())
+    }
+
+    fn set_rest_aside(&mut self) {
+        self.rest = true;
+    }
+
+    fn end_judging(&mut self) {
+        self.over = true;
+    }
+
     fn mark(&mut self) -> Result<Mark, StoreFault> {
         let objects = self.objects.copy(self.alloc)?;
         let secrets = self.secrets.copy(self.alloc)?;
-        self.marks.push(Saved { objects, secrets })?;
+        let asides = self.asides.copy(self.alloc)?;
+        self.marks.push(Saved {
+            objects,
+            secrets,
+            asides,
+            rest: self.rest,
+            over: self.over,
+        })?;
         Ok(Mark {
             depth: self.marks.len(),
         })
@@ -152,6 +217,8 @@ impl Ledger for Copies {
             return;
         };
         self.objects = newest.objects;
+        self.asides = newest.asides;
+        self.rest = newest.rest;
     }
 
     fn back(&mut self, mark: Mark) {
@@ -161,5 +228,8 @@ impl Ledger for Copies {
         };
         self.objects = saved.objects;
         self.secrets = saved.secrets;
+        self.asides = saved.asides;
+        self.rest = saved.rest;
+        self.over = saved.over;
     }
 }

@@ -39,6 +39,7 @@ impl Counted {
     ghost use Rattle.std.specs.Prelude.{◌≡◌, ◌<◌, ◌-◌, [], true, false, length, slice_get, take, string_bytes, None, Some, IfSome};
     ghost use Rattle.kmipa_store.specs.Ledger.{held, cards_of, place_of, relived};
     ghost use Rattle.kmipa_store.specs.Memory.{Pushes};
+    ghost use Rattle.kmipa_store.specs.Objects.{GivesFormer, exchanged};
     ghost use Rattle.kmipa_store.specs.Queries.{any_live_named, next_live_named};
 
     /// No objects.
@@ -125,6 +126,27 @@ impl Counted {
             return;
         }
         self.tally.add(led);
+    }
+
+    /// The object at a place, if there is one, and another one are exchanged, but for their identifiers.
+    pub fn exchange(&mut self, place: usize, other: &mut Object)
+        ensures after { self.new ≡ exchanged self.old place (held other.old) }
+        ensures former { GivesFormer (slice_get self.old place) (held other.old) (held other.new) }
+    {
+        if place >= self.objects.len() {
+            return;
+        }
+        let before = self.objects.at(place);
+        self.tally.remove(before);
+        self.live.forget(place, before.given.names.as_slice());
+        self.objects.exchange(place, other);
+        let after = self.objects.at(place);
+        follow(&mut self.live, false, place, after);
+        if self.tally.begins_with(after) {
+            self.tally = Tally::of(self.alloc, &self.objects);
+            return;
+        }
+        self.tally.add(after);
     }
 
     /// Takes the last object away, if there is one.

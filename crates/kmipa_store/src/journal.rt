@@ -2,12 +2,13 @@
 
 ghost use Rattle.std.specs.Prelude.{◌≡◌, true, length};
 ghost use Rattle.kmipa_store.specs.Histories.{fits, while_marked};
-ghost use Rattle.kmipa_store.specs.Journal.{dated_at_marks, object_places, secret_places};
+ghost use Rattle.kmipa_store.specs.Journal.{aside_places, dated_at_marks, object_places, secret_places};
 ghost use Rattle.kmipa_store.specs.Present.{AreAwaited, EachAwaited};
 
+use crate::aside_ids::AsideIds;
 use crate::changes::{
-    ObjectChange, Place, SecretChange, forget_unmarked, push_object, push_secret, roll_back,
-    set_life, tell_secret,
+    AsideChange, ObjectChange, Place, SecretChange, forget_unmarked, push_aside, push_object,
+    push_secret, renew_object, roll_back, say_aside, set_life, tell_secret,
 };
 use crate::fault::StoreFault;
 use crate::feature::Feature;
@@ -31,7 +32,8 @@ use std::alloc::Global;
 /// # What a mark costs
 /// A mark is how many changes there were. Going back takes back what was done since then; no call costs as much as the inventory.
 /// A change that finds no room in the journal is taken back at once, so that `keep`, `undo` and `back` take no memory. `undo` takes
-/// the objects back and leaves what was written of the secrets to the marks below.
+/// the objects and what is set aside back, and leaves what was written of the secrets to the marks below. That the rest is set aside, and
+/// that judging is over, each mark knows by itself.
 #[derive(Drop)]
 pub struct Journal {
     alloc: Global,
@@ -39,23 +41,30 @@ pub struct Journal {
     object_changes: Vec<ObjectChange>,
     secrets: Secrets,
     secret_changes: Vec<SecretChange>,
+    asides: AsideIds,
+    aside_changes: Vec<AsideChange>,
+    rest: bool,
+    over: bool,
     places: Vec<Place>,
     ghost objects_fit: { fits (length object_changes.items) (object_places places.items) ≡ true },
     ghost secrets_fit: { fits (length secret_changes.items) (secret_places places.items) ≡ true },
+    ghost asides_fit: { fits (length aside_changes.items) (aside_places places.items) ≡ true },
     ghost awaited_now: { AreAwaited present.dated },
     ghost awaited_then: { EachAwaited (dated_at_marks present.dated object_changes.items places.items) },
     ghost objects_forgotten: { while_marked places.items object_changes.items ≡ object_changes.items },
     ghost secrets_forgotten: { while_marked places.items secret_changes.items ≡ secret_changes.items },
+    ghost asides_forgotten: { while_marked places.items aside_changes.items ≡ aside_changes.items },
 }
 
 impl Journal {
     ghost use Rattle.std.specs.Prelude.{pos, []};
+    ghost use Rattle.kmipa_store.specs.Aside.{nothing_aside};
     ghost use Rattle.kmipa_store.specs.Ledger.{LedgerState};
     ghost use Rattle.kmipa_store.specs.States.{moment_of_journal, state_of_journal};
 
-    /// A ledger without objects, secrets and marks.
+    /// A ledger without objects, secrets and marks, where nothing is set aside.
     pub fn new(alloc: Global) -> Journal
-        ensures meaning { state_of_journal result ≡ record { now = record { objects = []; secrets = [] }; marks = [] } }
+        ensures meaning { state_of_journal result ≡ record { now = record { objects = []; secrets = []; aside = nothing_aside }; marks = [] } }
         ensures moment { moment_of_journal result ≡ pos 0 }
     {
         Journal {
@@ -64,6 +73,10 @@ impl Journal {
             object_changes: Vec::new(alloc),
             secrets: Secrets::new(alloc),
             secret_changes: Vec::new(alloc),
+            asides: AsideIds::new(alloc),
+            aside_changes: Vec::new(alloc),
+            rest: false,
+            over: false,
             places: Vec::new(alloc),
         }
     }
@@ -144,6 +157,16 @@ impl Ledger for Journal {
         )
     }
 
+    fn renew(&mut self, place: usize, object: Object) -> Result<(), StoreFault> {
+        renew_object(
+            &mut self.present,
+            &mut self.object_changes,
+            &self.places,
+            place,
+            object,
+        )
+    }
+
     fn new_secret(&mut self, rule: Rule) -> Result<SecretNo, StoreFault> {
         if !rule.is_possible() {
             return Err(StoreFault::LengthImpossible);
@@ -179,10 +202,55 @@ impl Ledger for Journal {
         }
     }
 
+    fn is_aside(&self, id: &str) -> bool {
+        self.asides.is_aside(id)
+    }
+
+    fn is_rest_aside(&self) -> bool {
+        self.rest
+    }
+
+    fn is_over(&self) -> bool {
+        self.over
+    }
+
+    fn is_any_aside(&self) -> bool {
+        self.asides.is_any() || self.rest || self.over
+    }
+
+    fn set_aside(&mut self, id: &str) -> Result<(), StoreFault> {
+        let asides = &mut self.asides;
+        let changes = &mut self.aside_changes;
+        match asides.find(id) {
+            Some(place) => say_aside(asides, changes, &self.places, place, true),
+            None => push_aside(asides, changes, &self.places, id),
+        }
+    }
+
+    fn take_in(&mut self, id: &str) -> Result<(), StoreFault> {
+        let asides = &mut self.asides;
+        let changes = &mut self.aside_changes;
+        match asides.find(id) {
+            Some(place) => say_aside(asides, changes, &self.places, place, false),
+            None => Ok(()),
+        }
+    }
+
+    fn set_rest_aside(&mut self) {
+        self.rest = true;
+    }
+
+    fn end_judging(&mut self) {
+        self.over = true;
+    }
+
     fn mark(&mut self) -> Result<Mark, StoreFault> {
         let place = Place {
             objects: self.object_changes.len(),
             secrets: self.secret_changes.len(),
+            asides: self.aside_changes.len(),
+            rest: self.rest,
+            over: self.over,
         };
         self.places.push(place)?;
         Ok(Mark {
@@ -195,6 +263,7 @@ impl Ledger for Journal {
         let _ = self.places.pop();
         forget_unmarked(&mut self.object_changes, &self.places);
         forget_unmarked(&mut self.secret_changes, &self.places);
+        forget_unmarked(&mut self.aside_changes, &self.places);
     }
 
     fn undo(&mut self, mark: Mark) {
@@ -203,8 +272,11 @@ impl Ledger for Journal {
             return;
         };
         roll_back(&mut self.present, &mut self.object_changes, newest.objects);
+        roll_back(&mut self.asides, &mut self.aside_changes, newest.asides);
+        self.rest = newest.rest;
         forget_unmarked(&mut self.object_changes, &self.places);
         forget_unmarked(&mut self.secret_changes, &self.places);
+        forget_unmarked(&mut self.aside_changes, &self.places);
     }
 
     fn back(&mut self, mark: Mark) {
@@ -214,7 +286,11 @@ impl Ledger for Journal {
         };
         roll_back(&mut self.present, &mut self.object_changes, place.objects);
         roll_back(&mut self.secrets, &mut self.secret_changes, place.secrets);
+        roll_back(&mut self.asides, &mut self.aside_changes, place.asides);
+        self.rest = place.rest;
+        self.over = place.over;
         forget_unmarked(&mut self.object_changes, &self.places);
         forget_unmarked(&mut self.secret_changes, &self.places);
+        forget_unmarked(&mut self.aside_changes, &self.places);
     }
 }

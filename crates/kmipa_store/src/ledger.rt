@@ -10,7 +10,7 @@ pub struct Mark {
     pub depth: usize,
 }
 
-/// Objects in the order of arrival, secrets whose bytes may be unknown, and marks to go back to.
+/// Objects in the order of arrival, secrets whose bytes may be unknown, what is set aside, and marks to go back to.
 ///
 /// # Laws
 /// Each call is one equation on the ledger's meaning. A refused call changes nothing, and of several faults the lowest is told.
@@ -18,15 +18,21 @@ pub struct Mark {
 /// # The moment
 /// States are told at one moment, which is no part of the meaning: only `set_moment` changes it, and no mark goes back to it.
 ///
+/// # What is set aside
+/// Identifiers about which nothing is judged, also those of no object: what becomes of an object whose identifier is set aside is for who
+/// calls to say. It goes back to marks as objects do; but where judging is over no `undo` takes that back.
+///
 /// # Memory
-/// `add`, `replace`, `new_secret`, `mark` and `learn` of bytes that were unknown may take memory, and no other call does.
+/// `add`, `replace`, `renew`, `new_secret`, `set_aside`, `take_in`, `mark` and `learn` of bytes that were unknown may take memory, and no
+/// other call does.
 pub trait Ledger {
-    ghost use Rattle.std.specs.Prelude.{◌≡◌, ◌<◌, ℤ, length, slice_get, Some, IfSome, option_map};
-    ghost use Rattle.kmipa_store.specs.Ledger.{LedgerState, held, cards_of, place_of, bytes_at, kept, undone, gone_back};
-    ghost use Rattle.kmipa_store.specs.Calls.{Adds, Replaces, MakesSecret, Learns, SetsMark};
+    ghost use Rattle.std.specs.Prelude.{◌≡◌, ◌<◌, ℤ, length, slice_get, string_bytes, Some, IfSome, option_map};
+    ghost use Rattle.kmipa_store.specs.Aside.{is_any_aside, is_named_aside};
+    ghost use Rattle.kmipa_store.specs.Ledger.{LedgerState, held, cards_of, place_of, id_at, bytes_at, rest_set_aside, judging_ended, kept, undone, gone_back};
+    ghost use Rattle.kmipa_store.specs.Calls.{Adds, Replaces, Renews, MakesSecret, Learns, SetsAside, TakesIn, SetsMark};
     ghost use Rattle.kmipa_store.specs.Queries.{state_of_place, next_live_named, next_named, next_with, any_live_named};
 
-    /// Its objects, secrets and marks.
+    /// Its objects, its secrets, what is set aside, and its marks.
     ghost state: { Self → LedgerState };
 
     /// The moment at which states are told.
@@ -95,6 +101,13 @@ pub trait Ledger {
         ensures meaning { Replaces (state self.old) place life result (state self.new) }
         ensures moment { moment self.new ≡ moment self.old };
 
+    /// The object at a place is another one of the same identifier from now on. Refused for memory alone; the other one is then let go.
+    fn renew(&mut self, place: usize, object: Object) -> Result<(), StoreFault>
+        requires there { place < length (state self.old).now.objects }
+        requires same { id_at (state self.old).now.objects place ≡ Some (string_bytes object.id) }
+        ensures meaning { Renews (state self.old) place (held object) result (state self.new) }
+        ensures moment { moment self.new ≡ moment self.old };
+
     /// A new secret of unknown bytes under this rule. Refused with LengthImpossible or for memory.
     fn new_secret(&mut self, rule: Rule) -> Result<SecretNo, StoreFault>
         ensures meaning { MakesSecret (state self.old) rule result (state self.new) }
@@ -111,6 +124,42 @@ pub trait Ledger {
         ensures meaning { Learns (state self.old) secret.number bytes.now result (state self.new) }
         ensures moment { moment self.new ≡ moment self.old };
 
+    /// Whether this identifier is set aside by its name.
+    fn is_aside(&self, id: &str) -> bool
+        ensures { result ≡ is_named_aside (state self.now).now.aside id.now };
+
+    /// Whether every identifier that no object has is set aside.
+    fn is_rest_aside(&self) -> bool
+        ensures { result ≡ (state self.now).now.aside.rest };
+
+    /// Whether judging is over: all is set aside, for good.
+    fn is_over(&self) -> bool
+        ensures { result ≡ (state self.now).now.aside.over };
+
+    /// Whether something is set aside: some identifier, the rest, or all.
+    fn is_any_aside(&self) -> bool
+        ensures { result ≡ is_any_aside (state self.now).now.aside };
+
+    /// From now on this identifier is set aside. Refused for memory alone.
+    fn set_aside(&mut self, id: &str) -> Result<(), StoreFault>
+        ensures meaning { SetsAside (state self.old) id.now result (state self.new) }
+        ensures moment { moment self.new ≡ moment self.old };
+
+    /// From now on this identifier is no more set aside by its name. Refused for memory alone.
+    fn take_in(&mut self, id: &str) -> Result<(), StoreFault>
+        ensures meaning { TakesIn (state self.old) id.now result (state self.new) }
+        ensures moment { moment self.new ≡ moment self.old };
+
+    /// From now on every identifier that no object has is set aside.
+    fn set_rest_aside(&mut self)
+        ensures meaning { state self.new ≡ rest_set_aside (state self.old) }
+        ensures moment { moment self.new ≡ moment self.old };
+
+    /// From now on judging is over.
+    fn end_judging(&mut self)
+        ensures meaning { state self.new ≡ judging_ended (state self.old) }
+        ensures moment { moment self.new ≡ moment self.old };
+
     /// A new mark at this moment. Refused for memory alone.
     fn mark(&mut self) -> Result<Mark, StoreFault>
         ensures meaning { SetsMark (state self.old) result (state self.new) }
@@ -122,13 +171,13 @@ pub trait Ledger {
         ensures meaning { state self.new ≡ kept (state self.old) }
         ensures moment { moment self.new ≡ moment self.old };
 
-    /// Spends the newest mark: objects go back to it, secrets and what was learned stay.
+    /// Spends the newest mark: objects and what is set aside go back to it; secrets, what was learned, and that judging is over stay.
     fn undo(&mut self, mark: Mark)
         requires { mark.depth ≡ length (state self.old).marks }
         ensures meaning { state self.new ≡ undone (state self.old) }
         ensures moment { moment self.new ≡ moment self.old };
 
-    /// Spends the newest mark: objects, secrets and what was learned go back to it.
+    /// Spends the newest mark: all goes back to it.
     fn back(&mut self, mark: Mark)
         requires { mark.depth ≡ length (state self.old).marks }
         ensures meaning { state self.new ≡ gone_back (state self.old) }

@@ -14,6 +14,7 @@ use kmipa_attrs::Name;
 use kmipa_object::{Life, Object, State, state_at};
 use std::alloc::Global;
 use std::marker::Model;
+use std::mem;
 
 /// So many slots are made first. It is a power of two, and so is each number of slots that follows, which is twice the one before.
 const FIRST_SLOTS: usize = 32;
@@ -47,6 +48,7 @@ impl Objects {
     ghost use Rattle.std.specs.Prelude.{◌≡◌, ◌-◌, ◌<◌, [], length, take, slice_get, string_bytes, Some, None, IfSome, IfOk, IfErr};
     ghost use Rattle.kmipa_store.specs.Ledger.{held, cards_of, place_of, relived};
     ghost use Rattle.kmipa_store.specs.Memory.{Pushes};
+    ghost use Rattle.kmipa_store.specs.Objects.{GivesFormer, exchanged};
     ghost use Rattle.kmipa_store.specs.Queries.{has_name, next_live_named, next_named, next_with, any_live_named, state_of_place};
 
     /// No objects.
@@ -163,6 +165,19 @@ impl Objects {
             return;
         };
         object.life = life;
+    }
+
+    /// The object at a place, if there is one, and another one are exchanged, but for their identifiers.
+    pub fn exchange(&mut self, place: usize, other: &mut Object)
+        ensures after { self.new ≡ exchanged self.old place (held other.old) }
+        ensures former { GivesFormer (slice_get self.old place) (held other.old) (held other.new) }
+    {
+        let Some(object) = self.in_order.get_mut(place) else {
+            return;
+        };
+        mem::swap(&mut object.kind, &mut other.kind);
+        mem::swap(&mut object.given, &mut other.given);
+        mem::swap(&mut object.life, &mut other.life);
     }
 
     /// Takes the last object away, if there is one.

@@ -1,8 +1,11 @@
 //! The objects of the present, with their names, their states and their dates.
 
-ghost use Rattle.std.specs.Prelude.{◌-◌, length};
+ghost use Rattle.std.specs.Prelude.{◌≡◌, ◌-◌, length, map, slice_get};
+ghost use Rattle.kmipa_attrs.specs.Sets.{name_of};
 ghost use Rattle.kmipa_store.specs.Features.{Forgets, KnowsLasting};
-ghost use Rattle.kmipa_store.specs.Names.{KeepsOthers};
+ghost use Rattle.kmipa_store.specs.Ledger.{held};
+ghost use Rattle.kmipa_store.specs.Names.{KeepsOthers, ListsAgain};
+ghost use Rattle.kmipa_store.specs.Objects.{GivesFormer, exchanged};
 
 use crate::changes::{ObjectChange, Undo};
 use crate::clock::Clock;
@@ -11,16 +14,22 @@ use crate::fault::StoreFault;
 use crate::feature::Feature;
 use crate::features::Features;
 use crate::names::Names;
+use kmipa_attrs::Name;
 use kmipa_object::{Life, Object, State};
 use std::alloc::Global;
 use std::marker::Model;
 
 /// Objects, counted by their names, an index of these, one of what else lasts, and a clock that tells the state of each object.
+///
+/// # Names that are not listed
+/// What goes back to a mark finds its names listed already. Should one of them be not, and find no memory, all objects are looked at for a
+/// name from then on.
 #[derive(Drop)]
 pub struct Present {
     alloc: Global,
     objects: Counted,
     names: Names,
+    are_names_listed: bool,
     features: Features,
     clock: Clock,
 }
@@ -29,19 +38,20 @@ impl Model for Present {
     ghost use Rattle.std.specs.Prelude.{◌≡◌};
     ghost use Rattle.kmipa_store.specs.Clock.{states_at};
     ghost use Rattle.kmipa_store.specs.Features.{KnowsLasting};
-    ghost use Rattle.kmipa_store.specs.Names.{Covers};
+    ghost use Rattle.kmipa_store.specs.Names.{Knows};
     ghost use Rattle.kmipa_store.specs.Present.{Standing};
 
     ghost Value = { Standing };
 
     ghost view = { λ p. record { dated = record { objects = p.objects; due = p.clock.due }; moment = p.clock.moment } };
 
-    ghost invariant = { λ p. (p.clock.states ≡ states_at p.objects p.clock.moment) × Covers p.names p.objects × KnowsLasting p.features p.objects };
+    ghost invariant = { λ p. (p.clock.states ≡ states_at p.objects p.clock.moment) × Knows p.are_names_listed p.names p.objects × KnowsLasting p.features p.objects };
 }
 
 impl Present {
     ghost use Rattle.std.specs.Prelude.{◌≡◌, ◌<◌, ◌++◌, ◌∷◌, [], pos, length, slice_get, string_bytes, Some, None, IfSome};
-    ghost use Rattle.kmipa_store.specs.Ledger.{held, cards_of, place_of, relived};
+    ghost use Rattle.kmipa_object.specs.Lists.{updated};
+    ghost use Rattle.kmipa_store.specs.Ledger.{held, cards_of, id_at, place_of, relived};
     ghost use Rattle.kmipa_store.specs.Present.{AreAwaited, Makes};
     ghost use Rattle.kmipa_store.specs.Queries.{next_live_named, next_named, next_with, any_live_named, state_of_place};
 
@@ -54,6 +64,7 @@ impl Present {
             alloc,
             objects: Counted::new(alloc),
             names: Names::new(alloc),
+            are_names_listed: true,
             features: Features::new(alloc),
             clock: Clock::new(alloc),
         }
@@ -87,7 +98,12 @@ impl Present {
         ensures place { result ≡ next_named value.now kind from self.now.dated.objects }
         ensures within { IfSome result (λ place. place < length self.now.dated.objects) }
     {
-        self.names.next(self.objects.plain(), value, kind, from)
+        let objects = self.objects.plain();
+        if self.are_names_listed {
+            self.names.next(objects, value, kind, from)
+        } else {
+            objects.next_named(value, kind, from)
+        }
     }
 
     /// The first place from this one on whose object has this name and no Destroy Date.
@@ -105,7 +121,12 @@ impl Present {
         if self.objects.is_none_live(value, kind) {
             return false;
         }
-        self.names.any_live(self.objects.plain(), value, kind)
+        let objects = self.objects.plain();
+        if self.are_names_listed {
+            self.names.any_live(objects, value, kind)
+        } else {
+            objects.any_live_named(value, kind)
+        }
     }
 
     /// The first place from this one on whose object has this feature, at the moment.
@@ -190,6 +211,22 @@ impl Present {
         self.clock.tell(place, life);
         Ok(ObjectChange::Replaced(place, before, brought))
     }
+
+    /// The object at a place is another one of the same identifier from now on. The names of the former one stay listed.
+    pub fn renew(&mut self, place: usize, object: Object) -> Result<ObjectChange, StoreFault>
+        requires there { place < length self.old.dated.objects }
+        requires same { id_at self.old.dated.objects place ≡ Some (string_bytes object.id) }
+        ensures { Makes self.old (updated self.old.dated.objects place (λ _. held object)) result self.new }
+    {
+        let life = object.life;
+        let names = object.given.names.as_slice();
+        self.names.note(place, names)?;
+        let mut other = Box::new(self.alloc, object)?;
+        let brought = self.clock.note(place, life)?;
+        exchange(&mut self.objects, &mut self.features, place, &mut other);
+        self.clock.tell(place, life);
+        Ok(ObjectChange::Renewed(place, other, brought))
+    }
 }
 
 impl Undo<ObjectChange> for Present {
@@ -209,7 +246,44 @@ impl Undo<ObjectChange> for Present {
                 self.clock.tell(place, life);
                 self.clock.forget(place, brought);
             }
+            ObjectChange::Renewed(place, former, brought) => {
+                let mut former = Box::into_inner(former);
+                let led = former.life;
+                let names = former.given.names.as_slice();
+                let are_listed = list_again(&mut self.names, self.are_names_listed, place, names);
+                self.are_names_listed = are_listed;
+                exchange(&mut self.objects, &mut self.features, place, &mut former);
+                self.clock.tell(place, led);
+                self.clock.forget(place, brought);
+            }
         }
+    }
+}
+
+/// The object at a place, if there is one, and another one are exchanged, but for their identifiers.
+fn exchange(objects: &mut Counted, features: &mut Features, place: usize, other: &mut Object)
+    ensures after { objects.new ≡ exchanged objects.old place (held other.old) }
+    ensures former { GivesFormer (slice_get objects.old place) (held other.old) (held other.new) }
+    ensures features { KnowsLasting features.old objects.old → KnowsLasting features.new objects.new }
+{
+    if place >= objects.len() {
+        return;
+    }
+    let before = objects.at(place);
+    features.forget_object(place, before);
+    objects.exchange(place, other);
+    let after = objects.at(place);
+    features.note_object(place, after);
+}
+
+/// Lists the names of what went back to a place, and answers whether all names are listed then, if they were. These were listed when they
+/// came, so that they want no memory.
+fn list_again(names: &mut Names, are_listed: bool, place: usize, former: &[Name]) -> bool
+    ensures { ListsAgain names.old are_listed place (map name_of former.now) result names.new }
+{
+    match names.note(place, former) {
+        Ok(()) => are_listed,
+        Err(_) => false,
     }
 }
 

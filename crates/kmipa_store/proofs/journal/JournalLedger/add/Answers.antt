@@ -1,6 +1,7 @@
 use Rattle.std.proofs.Common.{List, ◌∙◌, ◌++◌, ◌∷◌, [], is_some, ap, sym}
 use Rattle.kmipa_object.specs.Inventory.{place_of}
 use Rattle.kmipa_store.specs.Ledger.{Held, held, cards_of}
+use Rattle.kmipa_store.specs.States.{asides_of}
 use Rattle.kmipa_store.proofs.AwaitLemmas.{awaited_after, each_after, fits_after, forgotten_after}
 use Rattle.kmipa_store.proofs.JournalLemmas.{objects_logged}
 use Rattle.kmipa_store.proofs.journal.JournalLedger.add.Goals as goal
@@ -13,10 +14,12 @@ invariant_of-self c =
     record {
       objects_fit = fits_after j.places.items j.present p.new.present j.object_changes.items p.new.changes.items wanted p.result p.ensures j.objects_fit;
       secrets_fit = j.secrets_fit;
+      asides_fit = j.asides_fit;
       awaited_now = awaited_after j.places.items j.present p.new.present j.object_changes.items p.new.changes.items wanted p.result p.ensures j.awaited_now;
       awaited_then = each_after j.places.items j.present p.new.present j.object_changes.items p.new.changes.items wanted p.result p.ensures j.objects_fit j.awaited_then;
       objects_forgotten = forgotten_after j.places.items j.present p.new.present j.object_changes.items p.new.changes.items wanted p.result p.ensures j.objects_forgotten;
       secrets_forgotten = j.secrets_forgotten;
+      asides_forgotten = j.asides_forgotten;
     }
 
 pub returns-clause-meaning : goal.returns-clause-meaning
@@ -25,5 +28,5 @@ returns-clause-meaning c =
     let p = c.push_object in (
       ap (λ id. is_some (place_of id (cards_of j.present.dated.objects))) (sym c.as_str.ensures.value) ∙ ap is_some (sym c.in_default.ensures.place),
       c.len-place.ensures,
-      objects_logged j.present.dated p.new.present.dated (j.present.dated.objects ++ held c.args.object ∷ []) j.object_changes.items p.new.changes.items j.secrets j.secret_changes.items j.places.items c.in_ok-push_object.ensures.0 c.in_ok-push_object.ensures.2 j.objects_fit,
+      objects_logged j.present.dated p.new.present.dated (j.present.dated.objects ++ held c.args.object ∷ []) j.object_changes.items p.new.changes.items j.secrets j.secret_changes.items (asides_of j) j.places.items c.in_ok-push_object.ensures.0 c.in_ok-push_object.ensures.2 j.objects_fit,
     )

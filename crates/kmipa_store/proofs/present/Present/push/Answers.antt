@@ -16,13 +16,13 @@ use Rattle.kmipa_store.proofs.present.Present.push.Goals as goal
 pub invariant_of-self : goal.invariant_of-self
 invariant_of-self c =
     let i = c.self.inside in
-    (c.self.invariant.0, covers_noted i.names c.note.new.self i.objects c.len-place.result (map name_of c.as_slice.result.now) c.note.result c.self.invariant.1 c.note.ensures, c.self.invariant.2)
+    (c.self.invariant.0, λ w. covers_noted i.names c.note.new.self i.objects c.len-place.result (map name_of c.as_slice.result.now) c.note.result (c.self.invariant.1 w) c.note.ensures, c.self.invariant.2)
 
 pub invariant_of-self-in_err-brought : goal.invariant_of-self-in_err-brought
 invariant_of-self-in_err-brought c =
     let i = c.self.inside in (
       subst (λ (x : Time). Tells i.objects x) (sym c.in_err-brought.ensures.1) c.self.invariant.0,
-      covers_noted i.names c.note.new.self i.objects c.len-place.result (map name_of c.as_slice.result.now) c.note.result c.self.invariant.1 c.note.ensures,
+      λ w. covers_noted i.names c.note.new.self i.objects c.len-place.result (map name_of c.as_slice.result.now) c.note.result (c.self.invariant.1 w) c.note.ensures,
       c.self.invariant.2,
     )
 
@@ -30,7 +30,7 @@ pub invariant_of-self-in-Ok : goal.invariant_of-self-in-Ok
 invariant_of-self-in-Ok c =
     let i = c.self.inside in (
       told_pushed i.objects c.push.new.self (held c.args.object) i.clock c.add.new.self (noted_life i.clock.moment i.clock.due c.len-place.result c.args.object.life) c.self.invariant.0 c.in-Ok.ensures c.in_ok-brought.ensures.0,
-      covers_pushed i.names c.note.new.self i.objects c.push.new.self (held c.args.object) c.len-place.result c.self.invariant.1 c.len-place.ensures c.in_ok-note.ensures.0
+      λ w. covers_pushed i.names c.note.new.self i.objects c.push.new.self (held c.args.object) c.len-place.result (c.self.invariant.1 w) c.len-place.ensures c.in_ok-note.ensures.0
           (subst (λ (x : List Name). AreListed c.note.new.self c.len-place.result (map name_of x)) c.as_slice.ensures c.in_ok-note.ensures.1) c.in-Ok.ensures,
       lasts_more i.features c.note_object.new.self i.objects c.push.new.self (held c.args.object) (held c.at.result.now) c.len-place.result c.self.invariant.2 c.in-Ok.ensures c.len-place.ensures c.at.ensures c.note_object.ensures,
     )
@@ -41,8 +41,8 @@ invariant_of-self-in-Err c =
     let same = removed_same i.clock c.add.new.self c.remove.new.self (state (dates_of c.args.object.life) i.clock.moment) c.len-place.result (noted_life i.clock.moment i.clock.due c.len-place.result c.args.object.life) c.in_ok-brought.brought
     c.in_ok-brought.ensures.0 c.in_ok-brought.ensures.1 c.remove.ensures in (
       subst (λ (x : Time). Tells c.push.new.self x) (sym same) (subst (λ (x : List Held). Tells x i.clock) (sym c.in-Err.ensures.1) c.self.invariant.0),
-      subst (λ (x : List Held). Covers c.note.new.self x) (sym c.in-Err.ensures.1)
-          (covers_noted i.names c.note.new.self i.objects c.len-place.result (map name_of c.as_slice.result.now) c.note.result c.self.invariant.1 c.note.ensures),
+      λ w. subst (λ (x : List Held). Covers c.note.new.self x) (sym c.in-Err.ensures.1)
+          (covers_noted i.names c.note.new.self i.objects c.len-place.result (map name_of c.as_slice.result.now) c.note.result (c.self.invariant.1 w) c.note.ensures),
       subst (λ (x : List Held). KnowsLasting i.features x) (sym c.in-Err.ensures.1) c.self.invariant.2,
     )
 

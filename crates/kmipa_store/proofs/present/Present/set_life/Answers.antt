@@ -16,7 +16,7 @@ invariant_of-self-2 c =
     let i = c.self.inside in
     let after : Time → Time = λ x. record x { states = updated x.states c.args.place (λ _. state (dates_of c.args.life) x.moment) } in (
       told_relived i.objects c.set_life.new.self c.args.place c.args.life i.clock c.tell.new.self (noted_life i.clock.moment i.clock.due c.args.place c.args.life) c.self.invariant.0 c.set_life.ensures (c.tell.ensures ∙ ap after c.in_ok-brought.ensures.0),
-      subst (λ (x : List Held). Covers i.names x) (sym c.set_life.ensures) (covers_relived i.names i.objects c.args.place c.args.life c.self.invariant.1),
+      λ w. subst (λ (x : List Held). Covers i.names x) (sym c.set_life.ensures) (covers_relived i.names i.objects c.args.place c.args.life (c.self.invariant.1 w)),
       lasts_led i.features i.objects c.set_life.new.self c.args.place c.args.life c.self.invariant.2 c.set_life.ensures,
     )
 

@@ -1,5 +1,5 @@
 -- proofs/states/States/next/Answers.antt
-use Rattle.std.proofs.Common.{◌∙◌, List, ℤ, ap, sym, subst}
+use Rattle.std.proofs.Common.{◌∙◌, ap, sym}
 use mir.Syntax.{w64}
 use Rattle.std.proofs.lemmas.Int.{to_z-of_z}
 use Rattle.kmipa_store.specs.Clock.{states_at}
