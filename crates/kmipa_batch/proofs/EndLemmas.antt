@@ -1,7 +1,7 @@
 -- A call over any ledger: its items, and what the option leaves of them.
 use Rattle.std.proofs.Common.{◌≡◌, ◌⊎◌, inl, inr, ℕ, zero, suc, Bool, true, false, if◌then◌else◌, List, [], ◌∷◌, ◌++◌, length, Option, Some, None, slice_get, Ok, Err, refl, sym, ap, ◌∙◌, subst, arith}
 use Rattle.kmipa_object.specs.Inventory.{Thing}
-use Rattle.kmipa_store.specs.Ledger.{Meaning, LedgerState, bytes_at, marked, kept, undone, gone_back}
+use Rattle.kmipa_store.specs.Ledger.{Meaning, LedgerState, aside_again, bytes_at, marked, kept, undone, gone_back}
 use Rattle.kmipa_store.specs.Choices.{inv, IsSound}
 use Rattle.kmipa_store.proofs.ChoiceLemmas.{agrees_same, extends_same}
 use Rattle.kmipa_store.proofs.InventoryLemmas.{inv-same, kept-at, undone-at, gone_back-at}
@@ -101,7 +101,7 @@ module _ (rules : RulesOf) (m : Meaning) (request : RequestOf) (response : Respo
     }
 
     -- the objects go back, and what was learned stays
-    pub undone_explains : IsSound m → (f : ℕ) → request.option ≡ Undo → IsFirstFailed response.items f → CallExplainsAlong rules m request response order (record { objects = m.objects; secrets = n.secrets })
+    pub undone_explains : IsSound m → (f : ℕ) → request.option ≡ Undo → IsFirstFailed response.items f → CallExplainsAlong rules m request response order (record { objects = m.objects; secrets = n.secrets; aside = aside_again m.aside n.aside })
     undone_explains sound f o w = record {
       sound = λ c h.
           let r = ran.explains.sound c h in (
@@ -128,7 +128,7 @@ module _ (rules : RulesOf) (m : Meaning) (request : RequestOf) (response : Respo
       ascends = λ a. a;
     }
 
-    pub undone_sound : IsSound m → IsSound (record { objects = m.objects; secrets = n.secrets })
+    pub undone_sound : IsSound m → IsSound (record { objects = m.objects; secrets = n.secrets; aside = aside_again m.aside n.aside })
     undone_sound sound = record {
       in_range = InRange-extends m.objects m.secrets n.secrets sound.in_range ran.explains.extends;
       gone = sound.gone;

@@ -16,5 +16,5 @@ pub use laws::{
 pub use order::{is_taking_order, is_unordered};
 pub use readable::is_readable_call;
 pub use refusal::CallRefusal;
-pub use shape::is_refused_message;
+pub use shape::{first_failed, is_refused_message, is_shaped_at};
 pub use taking::take_call;

@@ -1,11 +1,12 @@
 //! Which answers a batch may have at which places.
 
-ghost use Rattle.std.specs.Prelude.{◌≡◌, ◌↔◌, IsTrue, map, length, nat_lt, option_map};
-ghost use Rattle.kmipa_msgs.specs.Messages.{answer_of, response_of};
+ghost use Rattle.std.specs.Prelude.{◌≡◌, ◌↔◌, IsTrue, map, length, nat_lt, option_map, slice_get};
+ghost use Rattle.kmipa_msgs.specs.Messages.{AnswerOf, answer_of, request_of, response_of};
 ghost use Rattle.kmipa_batch.specs.Calls.{RefusesMessage};
 ghost use Rattle.kmipa_batch.specs.Fits.{FailedAt, fits, fits_answer, fits_none, fits_undo, is_after, is_refusal, undoes};
+ghost use Rattle.kmipa_batch.specs.Shapes.{IsShapedAt};
 
-use kmipa_msgs::{Answer, BatchOption, Response, Status};
+use kmipa_msgs::{Answer, BatchOption, Request, Response, Status};
 
 /// Whether the response refuses the whole message: it has one answer, a failed one, that names no Operation.
 pub fn is_refused_message(response: &Response) -> bool
@@ -28,7 +29,7 @@ fn is_refusal(answer: &Answer) -> bool
 }
 
 /// The place of the first failed answer, from 0.
-pub(crate) fn first_failed(answers: &[Answer]) -> Option<usize>
+pub fn first_failed(answers: &[Answer]) -> Option<usize>
     ensures { FailedAt (map answer_of answers.now) result }
 {
     for (place, answer) in answers.iter().enumerate() {
@@ -49,8 +50,34 @@ pub(crate) fn is_undone(option: BatchOption, failed: Option<usize>) -> bool
     }
 }
 
+/// Whether a place of the call, from 0, has its shape: what may be answered there, or that nothing is, by the Batch Error Continuation Option and
+/// the first failed answer.
+pub fn is_shaped_at(
+    request: &Request,
+    response: &Response,
+    failed: Option<usize>,
+    place: usize,
+) -> bool
+    requires { FailedAt (response_of response.now).items failed }
+    ensures { IsTrue result ↔ IsShapedAt (request_of request.now) (response_of response.now) place }
+{
+    let asked = place < request.items.len();
+    let status = status_at(response, place);
+    has_shape(request.option, failed, place, asked, status)
+}
+
+/// The status of the answer at a place, if there is one.
+fn status_at(response: &Response, place: usize) -> Option<Status>
+    ensures { result ≡ option_map (λ (a : AnswerOf). a.status) (slice_get (response_of response.now).items place) }
+{
+    match response.items.get(place) {
+        Some(answer) => Some(answer.status),
+        None => None,
+    }
+}
+
 /// Whether a place may have an answer of this status, or none, where `asked` says that the request has an item there.
-pub(crate) fn has_shape(
+fn has_shape(
     option: BatchOption,
     failed: Option<usize>,
     place: usize,

@@ -1,11 +1,10 @@
 //! One call, taken over any ledger.
 
-ghost use Rattle.std.specs.Prelude.{◌≡◌, ◌<◌, ◌≤◌, ◌↔◌, All, IfSome, IsTrue, if◌then◌else◌, length, option_map, slice_get};
+ghost use Rattle.std.specs.Prelude.{◌≡◌, ◌<◌, ◌≤◌, All, IfSome, if◌then◌else◌, length};
 ghost use Rattle.kmipa_store.specs.Ledger.{kept, undone};
 ghost use Rattle.kmipa_store.specs.Choices.{IsSound};
-ghost use Rattle.kmipa_msgs.specs.Messages.{AnswerOf, maybe_lent, request_of, response_of, rules_of};
-ghost use Rattle.kmipa_batch.specs.Shapes.{IsShapedAt};
-ghost use Rattle.kmipa_batch.specs.Fits.{FailedAt, fits, undoes};
+ghost use Rattle.kmipa_msgs.specs.Messages.{maybe_lent, request_of, response_of, rules_of};
+ghost use Rattle.kmipa_batch.specs.Fits.{FailedAt, undoes};
 ghost use Rattle.kmipa_batch.specs.Orders.{order_given};
 ghost use Rattle.kmipa_batch.specs.Calls.{MayTake, RefusesMessage, pairs_of};
 ghost use Rattle.kmipa_batch.specs.Readable.{AreReadable, IsReadableCall};
@@ -15,8 +14,8 @@ ghost use Rattle.kmipa_batch.specs.Running.{LowestUnshaped, Ran, TakesCount};
 use crate::along::take_along;
 use crate::order::is_unordered;
 use crate::refusal::CallRefusal;
-use crate::shape::{first_failed, has_shape, is_refused_message, is_undone};
-use kmipa_msgs::{BatchOption, Request, Response, Rules, Status};
+use crate::shape::{first_failed, is_refused_message, is_shaped_at, is_undone};
+use kmipa_msgs::{BatchOption, Request, Response, Rules};
 use kmipa_ops::Why;
 use kmipa_store::{Ledger, Mark};
 use std::alloc::Global;
@@ -140,24 +139,4 @@ fn place_count(request: &Request, response: &Response) -> usize
     ensures answers { length response.now.items.items ≤ result }
 {
     usize::max(request.items.len(), response.items.len())
-}
-
-/// Whether a place of the call has its shape.
-fn is_shaped_at(request: &Request, response: &Response, failed: Option<usize>, place: usize) -> bool
-    requires { FailedAt (response_of response.now).items failed }
-    ensures { IsTrue result ↔ IsShapedAt (request_of request.now) (response_of response.now) place }
-{
-    let asked = place < request.items.len();
-    let status = status_at(response, place);
-    has_shape(request.option, failed, place, asked, status)
-}
-
-/// The status of the answer at a place, if there is one.
-fn status_at(response: &Response, place: usize) -> Option<Status>
-    ensures { result ≡ option_map (λ (a : AnswerOf). a.status) (slice_get (response_of response.now).items place) }
-{
-    match response.items.get(place) {
-        Some(answer) => Some(answer.status),
-        None => None,
-    }
 }

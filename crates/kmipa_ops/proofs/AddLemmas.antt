@@ -8,6 +8,7 @@ use Rattle.kmipa_object.specs.declared.life.SecretNo.{SecretNo}
 use Rattle.kmipa_object.specs.declared.rule.Rule.{Rule}
 use Rattle.kmipa_object.proofs.ListLemmas.{get-append_old, get-append_last, get-append_cases}
 use Rattle.kmipa_object.proofs.RuleLemmas.{possible_admits}
+use Rattle.kmipa_store.specs.Aside.{nothing_aside}
 use Rattle.kmipa_store.specs.Ledger.{Held, Known, Meaning, LedgerState, cards_of, with_secret, added}
 use Rattle.kmipa_store.specs.Calls.{is_taken}
 use Rattle.kmipa_store.specs.Choices.{Suits, IsSound, GoneIfDestroyed}
@@ -38,7 +39,7 @@ still_distinct m o sound free p q g h x y same = elim (get-append_cases m.object
 
 -- the ledger with a destroyed object
 pub destroyed_sound : (m : Meaning) (o : Held) → IsSound m → place_of o.card.id (cards_of m.objects) ≡ None → live o.card ≡ false → o.material ≡ Gone
-    → IsSound (record { objects = m.objects ++ o ∷ []; secrets = m.secrets })
+    → IsSound (record { objects = m.objects ++ o ∷ []; secrets = m.secrets; aside = m.aside })
 destroyed_sound m o sound free dead gone = record {
   in_range = record {
     there = λ p h n at mat. elim (get-append_cases m.objects o p h at) [
@@ -84,7 +85,7 @@ own_sound m card known b sound free alive suits =
     }
 
 -- a ledger without objects and secrets
-pub empty_sound : IsSound (record { objects = []; secrets = [] })
+pub empty_sound : IsSound (record { objects = []; secrets = []; aside = nothing_aside })
 empty_sound = record {
   in_range = record { there = λ p h n at mat. let bad : ⊥ = cc in absurd bad };
   gone = λ p h at. let bad : ⊥ = cc in absurd bad;
@@ -106,8 +107,8 @@ declared_sound s u v rule n h sound can number made free put mat is alive =
     let held_is : record { card = h.card; material = Secret (record { number = length s.now.secrets }) } ≡ h =
     ap (λ (k : ℕ). record { card = h.card; material = Secret (record { number = k }) }) (sym number) ∙ ap (λ (x : Material). record { card = h.card; material = x }) (sym mat) in
     let rules_is : with_own s.now h.card None ≡ v.now =
-    ap (λ (x : Held). record { objects = s.now.objects ++ x ∷ []; secrets = s.now.secrets ++ record { rule = rule_of h.card; bytes = None } ∷ [] }) held_is
-    ∙ ap (λ (r : Rule). record { objects = s.now.objects ++ h ∷ []; secrets = s.now.secrets ++ record { rule = r; bytes = None } ∷ [] }) is
+    ap (λ (x : Held). record { objects = s.now.objects ++ x ∷ []; secrets = s.now.secrets ++ record { rule = rule_of h.card; bytes = None } ∷ []; aside = s.now.aside }) held_is
+    ∙ ap (λ (r : Rule). record { objects = s.now.objects ++ h ∷ []; secrets = s.now.secrets ++ record { rule = r; bytes = None } ∷ []; aside = s.now.aside }) is
     ∙ ap (λ (x : LedgerState). (added x h).now) (sym made) ∙ ap (λ (x : LedgerState). x.now) (sym put) in
     subst (λ (m : Meaning). IsSound m) rules_is (own_sound s.now h.card None b.0 sound fresh alive suits)
 

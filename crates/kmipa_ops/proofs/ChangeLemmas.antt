@@ -94,7 +94,7 @@ own_after (Revoke code) h secret e = e
 own_after Destroy h secret e = cc
 
 sound_changed : (m : Meaning) (place : ℕ) (h : Held) (change : Change) (t : ℤ) → IsSound m → slice_get m.objects place ≡ Some h
-    → IsSound (record { objects = updated m.objects place (held_after change t); secrets = m.secrets })
+    → IsSound (record { objects = updated m.objects place (held_after change t); secrets = m.secrets; aside = m.aside })
 sound_changed m place h change t sound at =
     let life : Life = record {
       initial = (dates_after change t h.card.dates).initial;
@@ -104,7 +104,7 @@ sound_changed m place h change t sound at =
       compromise = (dates_after change t h.card.dates).compromise;
       material = material_after change h.material;
     } in
-    let P : List Held → Type 0 = λ hs. IsSound (record { objects = hs; secrets = m.secrets }) in
+    let P : List Held → Type 0 = λ hs. IsSound (record { objects = hs; secrets = m.secrets; aside = m.aside }) in
     subst P (updated-agree m.objects place (λ g. with_life g life) (held_after change t) h at refl)
     (sound_relived m place h life sound at (gone_after change t h (sound.gone place h at)) (own_after change h))
 
@@ -116,16 +116,16 @@ is_not-Not Not e = refl
 -- the calls of a ledger leave what a change leaves
 pub changed_is : (s u : LedgerState) (o : Option ℕ) (place : ℕ) (h : Held) (change : Change) (t : ℤ) (life : Life) → o ≡ Some place → slice_get s.now.objects place ≡ Some h
     → with_life h life ≡ held_left change t h → u ≡ replaced s place life
-    → u ≡ now_changed s (record { objects = changed_at s.now.objects o (held_left change t); secrets = s.now.secrets })
+    → u ≡ now_changed s (record { objects = changed_at s.now.objects o (held_left change t); secrets = s.now.secrets; aside = s.now.aside })
 changed_is s u o place h change t life here at is put =
-    let C : List Held → LedgerState = λ hs. now_changed s (record { objects = hs; secrets = s.now.secrets }) in
+    let C : List Held → LedgerState = λ hs. now_changed s (record { objects = hs; secrets = s.now.secrets; aside = s.now.aside }) in
     put ∙ ap C (updated-agree s.now.objects place (λ g. with_life g life) (held_left change t) h at is) ∙ ap (λ (x : Option ℕ). C (changed_at s.now.objects x (held_left change t))) (sym here)
 
 -- and an operation what it leaves of the object that is meant
 pub leaves_changed : {E : Type 0} (s u : LedgerState) (before id p : Option (List ℕ)) (o : Option ℕ) (t : ℤ) (change : Change) (r : Result (Unit {0}) E) → o ≡ place_meant s.now.objects (meant id before) → p ≡ before
-    → Changes s (record { objects = changed_at s.now.objects o (held_left change t); secrets = s.now.secrets }) r u → LeavesAfter s (with_changed s.now (meant id before) t change) before r u p
+    → Changes s (record { objects = changed_at s.now.objects o (held_left change t); secrets = s.now.secrets; aside = s.now.aside }) r u → LeavesAfter s (with_changed s.now (meant id before) t change) before r u p
 leaves_changed s u before id p o t change (Ok done) place held x =
-    (x ∙ ap (λ (y : Option ℕ). now_changed s (record { objects = changed_at s.now.objects y (held_left change t); secrets = s.now.secrets })) place, held)
+    (x ∙ ap (λ (y : Option ℕ). now_changed s (record { objects = changed_at s.now.objects y (held_left change t); secrets = s.now.secrets; aside = s.now.aside })) place, held)
 leaves_changed s u before id p o t change (Err e) place held x = x
 
 -- a life that is left
@@ -222,7 +222,7 @@ module _ (rules : RulesOf) (m : Meaning) (before asked : Option (List ℕ)) (t :
       let f : Stands at.0 at.2 o.0 = record { about_is = at.1; named = at.3; stands = at.4 } in
       let may : is_not (allowance rules (act_of change) t o.0.card) ≡ false = ap (is_excluded rules (act_of change) t) (sym o.1) ∙ silent WrongState in
       let left : (with_changed m about t change).objects ≡ updated m.objects at.2 (held_after change t) = objects_is at.0 at.2 o.0 f (in_table rules (act_of change) t o.0.card may) in
-      let P : List Held → Type 0 = λ hs. IsSound (record { objects = hs; secrets = m.secrets }) in
+      let P : List Held → Type 0 = λ hs. IsSound (record { objects = hs; secrets = m.secrets; aside = m.aside }) in
       record {
         sound = λ c ch. (ch, links at.0 at.2 o.0 f may (silent EchoDiffers) c);
         complete = λ c ch V p x.

@@ -53,10 +53,10 @@ change_why m id change rules before t payload about shown why is_meant is_shown 
 -- and the ledger that is left is as its row leaves it
 pub change_leaves_after : (s u : LedgerState) (place : Option ℕ) (id : Option (List ℕ)) (change : Change) (before : Option (List ℕ)) (t : ℤ) (payload : Option PayloadOf) {E : Type 0}
     (result : Result (Unit {0}) E) → place ≡ place_about s.now.objects before (subject_asked (asked_change id change))
-    → Changes s (record { objects = changed_at s.now.objects place (held_left change t); secrets = s.now.secrets }) result u
+    → Changes s (record { objects = changed_at s.now.objects place (held_left change t); secrets = s.now.secrets; aside = s.now.aside }) result u
     → LeavesAfter s (after_done s.now before t (asked_change id change) payload) (placeholder_done before (asked_change id change) payload) result u before
 change_leaves_after s u place id change before t payload (Ok done) is left =
-    let N : Option ℕ → Meaning = λ o. record { objects = changed_at s.now.objects o (held_left change t); secrets = s.now.secrets } in
+    let N : Option ℕ → Meaning = λ o. record { objects = changed_at s.now.objects o (held_left change t); secrets = s.now.secrets; aside = s.now.aside } in
     let P : Meaning → Type 0 = λ n. u ≡ changed s n in
     (subst P (ap N (is ∙ change_place id change s.now.objects before) ∙ sym (change_leaves id change s.now before t payload)) left, sym (change_holds id change before payload))
 change_leaves_after s u place id change before t payload (Err e) is left = left

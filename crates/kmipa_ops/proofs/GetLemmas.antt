@@ -163,14 +163,14 @@ module _ (rules : RulesOf) (m : Meaning) (before asked : Option (List ℕ)) (t :
       ]) refl fits
 
   taught_is : (id : List ℕ) (place : ℕ) (h : Held) (s : SecretNo) (b : List ℕ) → Finds m about id place h s
-      → taught m (object_meant m.objects about) b ≡ record { objects = m.objects; secrets = told m.secrets s.number b }
+      → taught m (object_meant m.objects about) b ≡ record { objects = m.objects; secrets = told m.secrets s.number b; aside = m.aside }
   taught_is id place h s b f =
       ap (λ (o : Option Held). taught m o b) (meant_is m about id place h f.about_is f.named f.stands) ∙ ap (λ (x : Material). taught_at m x b) f.secret
 
   told_step : (id : List ℕ) (place : ℕ) (h : Held) (s : SecretNo) (k : Known) (a : GotOf) → Finds m about id place h s → slice_get m.secrets s.number ≡ Some k → IsSound m
       → ((x : List ℕ) → k.bytes ≡ Some x → a.block.material ≡ x) → Admitted k.rule a.block.material → is_not (allowance rules act.Get t h.card) ≡ false
       → shows_other a (object_meant m.objects about) ≡ false → is_other_id a.id about ≡ false
-      → Step (λ V V' p. Gets rules V before t asked a V' p) m (record { objects = m.objects; secrets = told m.secrets s.number a.block.material }) before
+      → Step (λ V V' p. Gets rules V before t asked a V' p) m (record { objects = m.objects; secrets = told m.secrets s.number a.block.material; aside = m.aside }) before
   told_step id place h s k a f at sound fits admitted may other echo =
       let b : List ℕ = a.block.material in
       let suits : Suits k b = record { admitted = admitted; known = fits } in

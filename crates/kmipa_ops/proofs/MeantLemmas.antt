@@ -149,9 +149,9 @@ why_live rules m about t shown h s sound e mat in_state =
 
 -- a new secret that was told its bytes
 pub known_made : (s : LedgerState) (rule : Rule) (bytes : List ℕ) (known : Option (List ℕ)) (n : ℕ) (v u : LedgerState) → known ≡ Some bytes → n ≡ length s.now.secrets → v ≡ with_secret s rule
-    → u ≡ learned v n bytes → u ≡ changed s (record { objects = s.now.objects; secrets = s.now.secrets ++ record { rule = rule; bytes = known } ∷ [] })
+    → u ≡ learned v n bytes → u ≡ changed s (record { objects = s.now.objects; secrets = s.now.secrets ++ record { rule = rule; bytes = known } ∷ []; aside = s.now.aside })
 known_made s rule bytes known n v u is number made told =
-    let C : List Known → LedgerState = λ ss. changed s (record { objects = s.now.objects; secrets = ss }) in
+    let C : List Known → LedgerState = λ ss. changed s (record { objects = s.now.objects; secrets = ss; aside = s.now.aside }) in
     told ∙ ap (λ (x : LedgerState). learned x n bytes) made ∙ ap (λ (k : ℕ). learned (with_secret s rule) k bytes) number
     ∙ ap C (told-last s.now.secrets (record { rule = rule; bytes = None }) bytes) ∙ ap (λ (k : Option (List ℕ)). C (s.now.secrets ++ record { rule = rule; bytes = k } ∷ [])) (sym is)
 
@@ -189,4 +189,4 @@ taught_known s o p h secret bytes known here at mat is same =
     let there : option_and_then (slice_get s.now.objects) o ≡ Some h = ap (option_and_then (slice_get s.now.objects)) here ∙ at in
     let fits : differs (slice_get s.now.secrets secret.number) bytes ≡ false = differs_there s.now h secret bytes mat ∙ ap (λ (x : Option Held). differs_at s.now x bytes) (sym there) ∙ same in
     let stays : told s.now.secrets secret.number bytes ≡ s.now.secrets = told_known s.now.secrets secret.number bytes (some_known (slice_get s.now.secrets secret.number) known is, fits) in
-    taught_secret s s o p h secret bytes here at mat (ap (λ (ks : List Known). changed s (record { objects = s.now.objects; secrets = ks })) (sym stays))
+    taught_secret s s o p h secret bytes here at mat (ap (λ (ks : List Known). changed s (record { objects = s.now.objects; secrets = ks; aside = s.now.aside })) (sym stays))

@@ -58,13 +58,14 @@ abbrev pub with_own : Meaning → Card → Option (List ℕ) → Meaning
 with_own m card known = record {
   objects = m.objects ++ record { card = card; material = Secret (record { number = length m.secrets }) } ∷ [];
   secrets = m.secrets ++ record { rule = rule_of card; bytes = known } ∷ [];
+  aside = m.aside;
 }
 
 -- a new secret, of known bytes or unknown ones, has the next number
 abbrev pub MakesOwn : {E : Type 0} → LedgerState → Rule → Option (List ℕ) → Result SecretNo E → LedgerState → Type 0
 MakesOwn s rule known (Ok secret) u =
     (secret.number ≡ length s.now.secrets)
-    × (u ≡ changed s (record { objects = s.now.objects; secrets = s.now.secrets ++ record { rule = rule; bytes = known } ∷ [] }))
+    × (u ≡ changed s (record { objects = s.now.objects; secrets = s.now.secrets ++ record { rule = rule; bytes = known } ∷ []; aside = s.now.aside }))
 MakesOwn s rule known (Err e) u = u.marks ≡ s.marks
 
 -- the placeholder holds its identifier

@@ -106,7 +106,7 @@ changed_at objects None f = objects
 changed_at objects (Some place) f = updated objects place f
 
 abbrev pub with_changed : Meaning → Option (List ℕ) → ℤ → Change → Meaning
-with_changed m about t change = record { objects = changed_at m.objects (place_meant m.objects about) (held_left change t); secrets = m.secrets }
+with_changed m about t change = record { objects = changed_at m.objects (place_meant m.objects about) (held_left change t); secrets = m.secrets; aside = m.aside }
 
 abbrev pub seen_changed : PayloadOf → Option (Option (List ℕ))
 seen_changed (changed id) = Some id

@@ -83,7 +83,7 @@ differs_at m object bytes = differs (option_and_then (λ (h : Held). secret_at m
 -- with the bytes that a Get shows
 abbrev pub taught_at : Meaning → Material → List ℕ → Meaning
 taught_at m Gone bytes = m
-taught_at m (Secret secret) bytes = record { objects = m.objects; secrets = told m.secrets secret.number bytes }
+taught_at m (Secret secret) bytes = record { objects = m.objects; secrets = told m.secrets secret.number bytes; aside = m.aside }
 
 abbrev pub taught : Meaning → Option Held → List ℕ → Meaning
 taught m None bytes = m

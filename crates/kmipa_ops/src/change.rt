@@ -98,6 +98,7 @@ pub(crate) fn change_object<L: Ledger>(
           objects = changed_at (L.state ledger.old).now.objects place
               (held_left change (L.moment ledger.old));
           secrets = (L.state ledger.old).now.secrets;
+          aside = (L.state ledger.old).now.aside;
         }) result
         (L.state ledger.new) }
 {

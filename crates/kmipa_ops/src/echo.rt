@@ -7,8 +7,8 @@ ghost use Rattle.kmipa_ops.specs.Objects.{clash, is_other, same_type, is_other_i
 
 use kmipa_attrs::ObjectType;
 
-/// A number is there, and isn't the one expected.
-pub(crate) fn is_other_number(said: Option<u32>, expected: u32) -> bool
+/// Whether a number is there, and isn't the one expected.
+pub fn is_other_number(said: Option<u32>, expected: u32) -> bool
     ensures { result ≡ is_other (λ (x y : ℕ). x == y) said expected }
 {
     match said {
@@ -77,8 +77,8 @@ pub(crate) fn is_other_id(shown: Option<&str>, about: Option<&str>) -> bool
     }
 }
 
-/// Two byte strings are there, and differ.
-pub(crate) fn clash_bytes(said: Option<&[u8]>, known: Option<&[u8]>) -> bool
+/// Whether two byte strings are there, and differ.
+pub fn clash_bytes(said: Option<&[u8]>, known: Option<&[u8]>) -> bool
     ensures { result ≡ clash bytes_eq (maybe_lent said.entry) (maybe_lent known.entry) }
 {
     match said {

@@ -32,6 +32,7 @@ mod why;
 
 pub use change::Change;
 pub use deeds::{about, held_after, row_of};
+pub use echo::{clash_bytes, is_other_number};
 pub use fit::{Fit, matches};
 pub use judged::Judged;
 pub use laws::{
@@ -39,6 +40,7 @@ pub use laws::{
     fills_are_said, founded_is_decided, lists_are_decided, reasons_are_decided, stands_for_one,
     taking_decides,
 };
+pub use listing::is_over;
 pub use operation_row::{Effect, New, OperationRow, Subject};
 pub use placeholder::Placeholder;
 pub use readable::is_readable;

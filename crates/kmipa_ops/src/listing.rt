@@ -47,8 +47,8 @@ pub(crate) fn why_not_listed<L: Ledger>(
     Ok(None)
 }
 
-/// Whether more are listed than the maximum.
-fn is_over(maximum: Option<i32>, count: usize) -> bool
+/// Whether more are listed than the maximum, where there is one.
+pub fn is_over(maximum: Option<i32>, count: usize) -> bool
     ensures { result ≡ is_over maximum count }
 {
     match maximum {

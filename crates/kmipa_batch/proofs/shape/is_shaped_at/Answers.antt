@@ -3,7 +3,7 @@ use Rattle.std.proofs.lemmas.List.{length-map}
 use Rattle.kmipa_msgs.specs.Messages.{ask_of, request_of, response_of}
 use Rattle.kmipa_batch.specs.Fits.{fits}
 use Rattle.kmipa_batch.proofs.ShapeLemmas.{shape_reported}
-use Rattle.kmipa_batch.proofs.taking.is_shaped_at.Goals as goal
+use Rattle.kmipa_batch.proofs.shape.is_shaped_at.Goals as goal
 
 pub returns : goal.returns
 returns c =
