@@ -3,7 +3,7 @@ use Rattle.std.proofs.Common.{◌≡◌, ◌⊎◌, inl, inr, ℕ, List, false, 
 use Rattle.kmipa_record.specs.Kinds.{ByCause}
 use Rattle.kmipa_record.specs.Marks.{MarkOf, AreRecorded}
 use Rattle.kmipa_record.specs.Transcripts.{transcript_of}
-use Rattle.kmipa_record.specs.Declarations.{DeclarationOf}
+use Rattle.kmipa_record.specs.Declarations.{DeclarationOf, declaration_of}
 use Rattle.kmipa_record.specs.Witnesses.{TurnOf, witness_of}
 use Rattle.kmipa_record.specs.declared.reach.Reach.TheVariants.{Judged}
 use Rattle.kmipa_record.specs.declared.fault.RecordKind.{RecordKind}
@@ -67,8 +67,8 @@ fault_of fault (inr e) = cc
 pub accepted_audit_is_yes_lem : (t d w : List ℕ) → AreAccepted t d w → (result : Result Audited AuditFault) → Audits t d w false false false result → IsYes result
 accepted_audit_is_yes_lem t d w a (Ok audited) h =
     verdict_of audited.verdict
-    (said_yes a.marks (transcript_of audited.transcript) a.declared h.declared a.turns (witness_of audited.witness) (Ok audited.verdict)
-    (one_transcript_lem t (transcript_of audited.transcript) a.marks h.transcript a.transcript) (one_declaration_lem Judged d h.declared a.declared h.declaration a.declaration)
+    (said_yes a.marks (transcript_of audited.transcript) a.declared (declaration_of audited.declaration) a.turns (witness_of audited.witness) (Ok audited.verdict)
+    (one_transcript_lem t (transcript_of audited.transcript) a.marks h.transcript a.transcript) (one_declaration_lem Judged d (declaration_of audited.declaration) a.declared h.declaration a.declaration)
     (one_witness_lem w (witness_of audited.witness) a.turns h.witness a.witness) a.transcript.recorded a.accepted h.verdict)
 accepted_audit_is_yes_lem t d w a (Err (audit.Transcript f)) h = only_memory f.kind _ _ _ works (no_fault_of_transcript_lem t a.marks f.offset f.kind a.transcript) h
 accepted_audit_is_yes_lem t d w a (Err (audit.Declaration f)) h = only_memory f.kind _ _ _ works (no_fault_of_declaration_lem Judged d a.declared f.offset f.kind a.declaration) h.1

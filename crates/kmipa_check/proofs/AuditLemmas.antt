@@ -32,10 +32,9 @@ are_records ti di wi t d w records tf df wf p q s = record {
 -- a verdict on them
 pub judged : (t d w : List ℕ) (records : AuditRecords) (verdict : Verdict) → AreRecords records t d w
     → Checks (transcript_of records.transcript) (declaration_of records.declaration) (witness_of records.witness) (Ok verdict)
-    → AreJudged (record { verdict = verdict; transcript = records.transcript; witness = records.witness }) t d w
+    → AreJudged (record { verdict = verdict; transcript = records.transcript; declaration = records.declaration; witness = records.witness }) t d w
 judged t d w records verdict are checks = record {
   transcript = are.transcript;
-  declared = declaration_of records.declaration;
   declaration = are.declaration;
   witness = are.witness;
   verdict = checks;
@@ -66,8 +65,8 @@ fails t d w ft fd fw (audit.Check f) told = absurd told
 accepted_at : (verdict : Verdict) → verdict ≡ Yes → (audited : Audited) → audited.verdict ≡ verdict → (t d w : List ℕ) → AreJudged audited t d w → AreAccepted t d w
 accepted_at (No r) e audited is t d w j = absurd cc
 accepted_at Yes e audited is t d w j =
-    let P : Verdict → Type 0 = λ v. TellsVerdict (transcript_of audited.transcript) j.declared (witness_of audited.witness) v in
-    record { marks = transcript_of audited.transcript; transcript = j.transcript; declared = j.declared; declaration = j.declaration; turns = witness_of audited.witness; witness = j.witness; accepted = subst P is j.verdict }
+    let P : Verdict → Type 0 = λ v. TellsVerdict (transcript_of audited.transcript) (declaration_of audited.declaration) (witness_of audited.witness) v in
+    record { marks = transcript_of audited.transcript; transcript = j.transcript; declared = declaration_of audited.declaration; declaration = j.declaration; turns = witness_of audited.witness; witness = j.witness; accepted = subst P is j.verdict }
 
 pub yes_accepted : (t d w : List ℕ) (audited : Audited) → audited.verdict ≡ Yes → AreJudged audited t d w → AreAccepted t d w
 yes_accepted t d w audited said j = accepted_at Yes refl audited said t d w j
@@ -77,7 +76,7 @@ pub judged_as : (t d w : List ℕ) (audited : Audited) → AreJudged audited t d
 judged_as t d w audited j = record {
   marks = transcript_of audited.transcript;
   transcript = j.transcript;
-  declared = j.declared;
+  declared = declaration_of audited.declaration;
   declaration = j.declaration;
   turns = witness_of audited.witness;
   witness = j.witness;

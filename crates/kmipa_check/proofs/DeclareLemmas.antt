@@ -21,13 +21,13 @@ pub placed_known : (s t u : LedgerState) (e : EntryOf) (rule : Rule) (secret : S
 placed_known s t u e rule secret bytes alive is own made learns =
     let P : Option ℤ → Type 0 = λ destroy. PlacedAt destroy s e (Secret secret) u in
     let rule_is : rule ≡ rule_of (card_declared e) = is in
-    let with_known : Rule → Option (List ℕ) → LedgerState = λ r b. changed s (record { objects = s.now.objects; secrets = s.now.secrets ++ record { rule = r; bytes = b } ∷ [] }) in
+    let with_known : Rule → Option (List ℕ) → LedgerState = λ r b. changed s (record { objects = s.now.objects; secrets = s.now.secrets ++ record { rule = r; bytes = b } ∷ []; aside = s.now.aside }) in
     subst P (sym (none_there e.attributes.destroy alive)) (
       ap (λ (n : ℕ). Secret (record { number = n })) made.1,
       learns.2
           ∙ ap (λ (x : LedgerState). learned x secret.number bytes) made.2
           ∙ ap (λ (n : ℕ). learned (with_secret s rule) n bytes) made.1
-          ∙ ap (λ (ks : List Known). changed s (record { objects = s.now.objects; secrets = ks })) (told-last s.now.secrets (record { rule = rule; bytes = None }) bytes)
+          ∙ ap (λ (ks : List Known). changed s (record { objects = s.now.objects; secrets = ks; aside = s.now.aside })) (told-last s.now.secrets (record { rule = rule; bytes = None }) bytes)
           ∙ ap (λ (r : Rule). with_known r (Some bytes)) rule_is
           ∙ ap (with_known (rule_of (card_declared e))) (sym own),
     )

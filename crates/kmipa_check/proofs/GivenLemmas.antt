@@ -1,11 +1,12 @@
 -- What refuses a turn: the first fault of what it gives to its call.
-use Rattle.std.proofs.Common.{◌≡◌, ◌≢◌, ℕ, ℤ, List, [], Option, refl}
+use Rattle.std.proofs.Common.{◌≢◌, ℕ, ℤ, List, [], Option, refl}
 use Rattle.kmipa_record.specs.Witnesses.{TurnOf}
-use Rattle.kmipa_msgs.specs.Messages.{ResponseOf}
+use Rattle.kmipa_msgs.specs.Messages.{RequestOf, ResponseOf}
 use Rattle.kmipa_check.specs.declared.fault.StepFault.{StepFault}
 use Rattle.kmipa_check.specs.declared.fault.StepFault.TheVariants.{Unfit, Memory}
 use Rattle.kmipa_check.specs.declared.fault.WitnessKind.TheVariants.{MomentForm, AsideForm}
-use Rattle.kmipa_check.specs.Births.{BirthsRefused}
+use Rattle.kmipa_check.specs.Bearing.{BirthsRefused}
+use Rattle.kmipa_check.specs.Births.{IsBorn}
 use Rattle.kmipa_check.specs.Calls.{CallOf}
 use Rattle.kmipa_check.specs.Fills.{IsFilled}
 use Rattle.kmipa_check.specs.Filling.{FillsRefused}
@@ -40,9 +41,9 @@ module _ (g : GrantsOf) (c : CallOf) (t : TurnOf) where
 
         -- and the fills are put in
         module _ (full : ResponseOf) (filled : IsFilled c.request response t.fills full) where
-          pub births_refuse : (fault : StepFault) → BirthsRefused c.request response t.births fault → Refuses g c t fault
+          pub births_refuse : (fault : StepFault) → BirthsRefused g c.request response t.births fault → Refuses g c t fault
           births_refuse (Unfit kind) told = unfit_births response had moment timed places taken.0 taken.1 full filled told
           births_refuse Memory told = tt
 
-          pub asides_refuse : t.births ≡ [] → t.asides ≢ [] → Refuses g c t (Unfit AsideForm)
-          asides_refuse none some = unfit_asides response had moment timed places taken.0 taken.1 full filled none some refl
+          pub asides_refuse : (asked : RequestOf) → IsBorn g c.request response t.births asked → t.asides ≢ [] → Refuses g c t (Unfit AsideForm)
+          asides_refuse asked born some = unfit_asides response had moment timed places taken.0 taken.1 full filled asked born some refl

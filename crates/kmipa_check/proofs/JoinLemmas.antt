@@ -104,7 +104,8 @@ step_moves g n c t s i = record {
   taken = i.taken;
   full = i.full;
   filled = i.filled;
-  no_birth = i.no_birth;
+  asked = i.asked;
+  born = i.born;
   no_aside = i.no_aside;
   is = ap (step_moved n) i.is;
 }

@@ -8,12 +8,14 @@ use Rattle.kmipa_object.specs.declared.life.Material.{Material}
 use Rattle.kmipa_object.specs.declared.life.Material.TheVariants.{Gone, Secret}
 use Rattle.kmipa_object.specs.declared.life.SecretNo.{SecretNo}
 use Rattle.kmipa_object.proofs.ListLemmas.{map-push}
+use Rattle.kmipa_store.specs.Aside.{nothing_aside}
 use Rattle.kmipa_store.specs.Ledger.{Held, Known, Meaning, bytes_at}
 use Rattle.kmipa_store.specs.Choices.{GoneIfDestroyed, IsSound}
+use Rattle.kmipa_store.proofs.SoundLemmas.{sound_aside}
 use Rattle.kmipa_record.specs.Entries.{EntryOf}
 use Rattle.kmipa_record.specs.Declarations.{DeclarationOf, AreDeclared, declaration_of}
 use Rattle.kmipa_check.specs.Left.{bytes_left, entry_left}
-use Rattle.kmipa_check.specs.Opening.{IsNextNumber, Opened, held_declared, known_declared, opened_by, opened_from, with_declared, with_declared_at}
+use Rattle.kmipa_check.specs.Opening.{IsNextNumber, Opened, StandsAsOpened, held_declared, known_declared, opened_by, opened_from, with_declared, with_declared_at}
 use Rattle.kmipa_check.specs.SegmentReplays.{IsHeldAs}
 use Rattle.kmipa_check.specs.Verdicts.{AreKnown}
 use Rattle.kmipa_check.specs.declared.segment.Left.{Left}
@@ -41,33 +43,36 @@ module _ (declared : DeclarationOf) (may : AreDeclared declared) where
       let more : take (suc n) es ≡ take n es ++ at.0 ∷ [] = take_next es n at.0 at.1 in
       let P : List EntryOf → Type 0 = λ l. Opened l (opened_by l) in
       let Q : Meaning → Type 0 = λ m. Opened (take n es ++ at.0 ∷ []) m in
-      subst P (sym more) (subst Q (sym (opened_push (record { objects = []; secrets = [] }) (take n es) at.0))
+      subst P (sym more) (subst Q (sym (opened_push (record { objects = []; secrets = []; aside = nothing_aside }) (take n es) at.0))
       (opened_more (take n es) at.0 (opened_by (take n es)) before (next_declarable declared may n at.0 at.1) (next_unheld declared may n at.0 at.1 (opened_by (take n es)) before)))
 
   opened_all : Opened es (opened_by es)
   opened_all = let P : List EntryOf → Type 0 = λ l. Opened l (opened_by l) in subst P (take_all (length es) es (omega arith)) (opened_first (length es) (omega arith))
 
-  pub kept_known : (m : Meaning) → m ≡ opened_by es → AreKnown declared [] m
+  pub kept_known : (m : Meaning) → StandsAsOpened m es → AreKnown declared [] m
   kept_known m is =
       let P : Meaning → Type 0 = λ x. AreKnown declared [] x in
       let O : List EntryOf → Type 0 = λ l. Opened l (opened_by es) in
-      subst P (sym is) (opened_known declared (length es) (opened_by es) (omega arith) (subst O (sym (take_all (length es) es (omega arith))) opened_all))
+      let k = subst P (sym is) (opened_known declared (length es) (opened_by es) (omega arith) (subst O (sym (take_all (length es) es (omega arith))) opened_all)) in
+      record { sound = k.sound; complete = k.complete; reported = k.reported; ascends = k.ascends }
 
-  pub kept_sound : (m : Meaning) → m ≡ opened_by es → IsSound m
-  kept_sound m is = let P : Meaning → Type 0 = λ x. IsSound x in subst P (sym is) opened_all.sound
+  pub kept_sound : (m : Meaning) → StandsAsOpened m es → IsSound m
+  kept_sound m is =
+      let P : Meaning → Type 0 = λ x. IsSound x in
+      sound_aside (record { objects = m.objects; secrets = m.secrets; aside = nothing_aside }) m.aside (subst P (sym is) opened_all.sound)
 
 -- ---- a ledger, object by object
 
 -- the entries of the first objects open these and their secrets
 abbrev pub OpensFirst : Meaning → ℕ → ℕ → Type 0
-OpensFirst m place next = opened_by (map (entry_left m.secrets) (take place m.objects)) ≡ record { objects = take place m.objects; secrets = take next m.secrets }
+OpensFirst m place next = opened_by (map (entry_left m.secrets) (take place m.objects)) ≡ record { objects = take place m.objects; secrets = take next m.secrets; aside = nothing_aside }
 
 module _ (m : Meaning) (s : IsSound m) (place next : ℕ) (h : Held) (at : slice_get m.objects place ≡ Some h) (o : OpensFirst m place next) where
   abbrev e : EntryOf
   e = entry_left m.secrets h
 
   abbrev before : Meaning
-  before = record { objects = take place m.objects; secrets = take next m.secrets }
+  before = record { objects = take place m.objects; secrets = take next m.secrets; aside = nothing_aside }
 
   objects_more : take (place + 1) m.objects ≡ take place m.objects ++ h ∷ []
   objects_more = ap (λ (k : ℕ). take k m.objects) (add-one place) ∙ take_next m.objects place h at
@@ -76,7 +81,7 @@ module _ (m : Meaning) (s : IsSound m) (place next : ℕ) (h : Held) (at : slice
   opened_with =
       ap (λ (l : List Held). opened_by (map (entry_left m.secrets) l)) objects_more
       ∙ ap (λ (l : List EntryOf). opened_by l) (map-push (entry_left m.secrets) (take place m.objects) h)
-      ∙ opened_push (record { objects = []; secrets = [] }) (map (entry_left m.secrets) (take place m.objects)) e
+      ∙ opened_push (record { objects = []; secrets = []; aside = nothing_aside }) (map (entry_left m.secrets) (take place m.objects)) e
       ∙ ap (λ (x : Meaning). with_declared x e) o
 
   -- a destroyed one
@@ -85,11 +90,11 @@ module _ (m : Meaning) (s : IsSound m) (place next : ℕ) (h : Held) (at : slice
       let G : Material → Type 0 = λ x. GoneIfDestroyed (live h.card) x in
       let dead : live h.card ≡ false = dead_is (live h.card) (subst G gone (s.gone place h at)) in
       let same : held_declared e Gone ≡ h = ap (λ (x : Material). record { card = h.card; material = x }) (sym gone) in
-      opened_with ∙ by h.card.dates.destroy refl dead ∙ ap (λ (x : Held). record { objects = take place m.objects ++ x ∷ []; secrets = take next m.secrets }) same
-      ∙ ap (λ (l : List Held). record { objects = l; secrets = take next m.secrets }) (sym objects_more)
+      opened_with ∙ by h.card.dates.destroy refl dead ∙ ap (λ (x : Held). record { objects = take place m.objects ++ x ∷ []; secrets = take next m.secrets; aside = nothing_aside }) same
+      ∙ ap (λ (l : List Held). record { objects = l; secrets = take next m.secrets; aside = nothing_aside }) (sym objects_more)
     where
       by : (destroy : Option ℤ) → h.card.dates.destroy ≡ destroy → is_none h.card.dates.destroy ≡ false
-          → with_declared before e ≡ record { objects = take place m.objects ++ held_declared e Gone ∷ []; secrets = take next m.secrets }
+          → with_declared before e ≡ record { objects = take place m.objects ++ held_declared e Gone ∷ []; secrets = take next m.secrets; aside = nothing_aside }
       by (Some date) is dead = ap (λ (d : Option ℤ). with_declared_at d before e) is
       by None is dead = absurd cc
 
@@ -110,15 +115,16 @@ module _ (m : Meaning) (s : IsSound m) (place next : ℕ) (h : Held) (at : slice
       let secrets_more : take (next + 1) m.secrets ≡ take next m.secrets ++ known_declared e ∷ [] =
       ap (λ (k : ℕ). take k m.secrets) (add-one next) ∙ take_next m.secrets next _ here ∙ ap (λ (k : Known). take next m.secrets ++ k ∷ []) (sym secret) in
       opened_with ∙ by h.card.dates.destroy refl alive
-      ∙ ap (λ (x : Held). record { objects = take place m.objects ++ x ∷ []; secrets = take next m.secrets ++ known_declared e ∷ [] }) held
-      ∙ ap (λ (l : List Held). record { objects = l; secrets = take next m.secrets ++ known_declared e ∷ [] }) (sym objects_more)
-      ∙ ap (λ (l : List Known). record { objects = take (place + 1) m.objects; secrets = l }) (sym secrets_more)
+      ∙ ap (λ (x : Held). record { objects = take place m.objects ++ x ∷ []; secrets = take next m.secrets ++ known_declared e ∷ []; aside = nothing_aside }) held
+      ∙ ap (λ (l : List Held). record { objects = l; secrets = take next m.secrets ++ known_declared e ∷ []; aside = nothing_aside }) (sym objects_more)
+      ∙ ap (λ (l : List Known). record { objects = take (place + 1) m.objects; secrets = l; aside = nothing_aside }) (sym secrets_more)
     where
       by : (destroy : Option ℤ) → h.card.dates.destroy ≡ destroy → is_none h.card.dates.destroy ≡ true
           → with_declared before e
           ≡ record {
             objects = take place m.objects ++ held_declared e (Secret (record { number = length (take next m.secrets) })) ∷ [];
             secrets = take next m.secrets ++ known_declared e ∷ [];
+            aside = nothing_aside;
           }
       by (Some date) is alive = absurd cc
       by None is alive = ap (λ (d : Option ℤ). with_declared_at d before e) is
@@ -133,17 +139,17 @@ opens_more m s place next more h (Secret number) at o is n =
 
 -- with all objects
 pub opens_all : (m : Meaning) (place next : ℕ) → length m.objects ≤ place → OpensFirst m place next
-    → opened_by (map (entry_left m.secrets) m.objects) ≡ record { objects = m.objects; secrets = take next m.secrets }
+    → opened_by (map (entry_left m.secrets) m.objects) ≡ record { objects = m.objects; secrets = take next m.secrets; aside = nothing_aside }
 opens_all m place next past o =
     let all = take_all place m.objects past in
-    ap (λ (l : List Held). opened_by (map (entry_left m.secrets) l)) (sym all) ∙ o ∙ ap (λ (l : List Held). record { objects = l; secrets = take next m.secrets }) all
+    ap (λ (l : List Held). opened_by (map (entry_left m.secrets) l)) (sym all) ∙ o ∙ ap (λ (l : List Held). record { objects = l; secrets = take next m.secrets; aside = nothing_aside }) all
 
 -- and all secrets
-pub opens_whole : (m : Meaning) (own all : ℕ) → opened_by (map (entry_left m.secrets) m.objects) ≡ record { objects = m.objects; secrets = take own m.secrets } → all ≡ length m.secrets → own ≡ all
-    → m ≡ opened_by (map (entry_left m.secrets) m.objects)
+pub opens_whole : (m : Meaning) (own all : ℕ) → opened_by (map (entry_left m.secrets) m.objects) ≡ record { objects = m.objects; secrets = take own m.secrets; aside = nothing_aside } → all ≡ length m.secrets → own ≡ all
+    → StandsAsOpened m (map (entry_left m.secrets) m.objects)
 opens_whole m own all opened many same =
     let whole : take own m.secrets ≡ m.secrets = take_all own m.secrets (omega (arith, many, same)) in
-    sym (opened ∙ ap (λ (l : List Known). record { objects = m.objects; secrets = l }) whole)
+    sym (opened ∙ ap (λ (l : List Known). record { objects = m.objects; secrets = l; aside = nothing_aside }) whole)
 
 -- ---- where something is left
 
@@ -156,7 +162,7 @@ sound_behind (Some left) m some h = h.sound
 sound_behind None m some h = absurd cc
 
 -- the ledger stands as what is left opens it
-pub stands_left : (left : Option Left) (m : Meaning) → IsHeldFor left m → m ≡ opened_by (map (entry_left m.secrets) m.objects)
-    → IfSome left (λ l. m ≡ opened_by (declaration_of l.declaration).entries)
+pub stands_left : (left : Option Left) (m : Meaning) → IsHeldFor left m → StandsAsOpened m (map (entry_left m.secrets) m.objects)
+    → IfSome left (λ l. StandsAsOpened m (declaration_of l.declaration).entries)
 stands_left (Some left) m h opened = opened ∙ ap (λ (l : List EntryOf). opened_by l) (sym h.entries)
 stands_left None m h opened = tt

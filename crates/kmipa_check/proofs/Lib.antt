@@ -11,6 +11,7 @@ pub mod FillLemmas
 pub mod ItemLemmas
 pub mod FillingLemmas
 pub mod BirthLemmas
+pub mod BornLemmas
 pub mod GivenLemmas
 pub mod PlacesLemmas
 pub mod CompletedLemmas

@@ -10,6 +10,7 @@ use Rattle.std.proofs.lemmas.Slice.Eq.{bytes_eq-Decides}
 use Rattle.kmipa_object.specs.Inventory.{Card, Thing, Admitted, IsInventory, live, place_of, rule_of}
 use Rattle.kmipa_object.specs.declared.life.Material.TheVariants.{Gone, Secret}
 use Rattle.kmipa_object.proofs.ListLemmas.{map-push}
+use Rattle.kmipa_store.specs.Aside.{nothing_aside}
 use Rattle.kmipa_store.specs.Ledger.{Held, Known, Meaning, LedgerState, bytes_at, cards_of}
 use Rattle.kmipa_store.specs.Choices.{Choice, Chooses, Suits, inv, thing}
 use Rattle.kmipa_store.proofs.ChoiceLemmas.{override, override_same, override_agrees, Chooses-none, Chooses-fewer, Chooses-last, Chooses-more}
@@ -28,7 +29,7 @@ use Rattle.kmipa_check.proofs.DescribedLemmas.{zip_push, zip_last, inventory_bef
 use Rattle.kmipa_check.proofs.DeclarableLemmas.{gone_undeclared, declared_suits}
 
 -- nothing is declared
-pub opened_none : Opened [] (record { objects = []; secrets = [] })
+pub opened_none : Opened [] (record { objects = []; secrets = []; aside = nothing_aside })
 opened_none = record {
   sound = sound_none;
   cards = refl;

@@ -4,7 +4,7 @@ use Rattle.std.proofs.lemmas.Int.{ints}
 use Rattle.std.proofs.lemmas.Option.{slice_get-get_or}
 use Rattle.kmipa_msgs.specs.Messages.{AnswerOf, RequestOf, ResponseOf}
 use Rattle.kmipa_record.specs.Witnesses.{FillOf, TurnOf}
-use Rattle.std.specs.Prelude.{◌↔◌, All, IfSome, IsTrue, int_lt}
+use Rattle.std.specs.Prelude.{◌↔◌, ◌&&◌, not, nat_lt, All, IfSome, IsTrue, int_lt}
 use Rattle.std.specs.Int.Signed.{clash_ℤ}
 use Rattle.kmipa_batch.specs.Calls.{RefusesMessage, MayTake}
 use Rattle.kmipa_batch.specs.Orders.{IsTakingOrder, AreTakingOrder, order_given}
@@ -189,8 +189,29 @@ taken_at request response moment (Some places) taken =
     let order = taken.1.1 in
     ((taken.0.0, λ r. taken.0.1 (refused_at response moment r)), (taken.1.0, record { answered = order.answered; all = order.all; once = order.once; last = order.last }))
 
+-- with the births put in they may be taken so, too
+born_taken : (request asked : RequestOf) (response : ResponseOf) (places : Option (List ℕ)) → asked.option ≡ request.option → asked.ordered ≡ request.ordered → length asked.items ≡ length request.items
+    → MayBeTaken request response places → MayBeTaken asked response places
+born_taken request asked response None option ordered counted taken = tt
+born_taken request asked response (Some places) option ordered counted taken =
+    let o = taken.1.1 in
+    let unordered = ap (λ (b : Bool). not b && nat_lt 1 (length asked.items)) ordered ∙ ap (λ (n : ℕ). not request.ordered && nat_lt 1 n) counted ∙ taken.0.0 in (
+      (unordered, taken.0.1),
+      (
+        taken.1.0,
+        record {
+          answered = λ position place at. let a = o.answered position place at in (omega (arith, a.0, counted), a.1);
+          all = λ place a. o.all place (omega (arith, a.0, counted), a.1);
+          once = o.once;
+          last = λ ends failed first. o.last (λ e. ends (option ∙ e)) failed first;
+        },
+      ),
+    )
+
 -- the items of a step may be taken in its order
 pub step_taken : (g : GrantsOf) (c : CallOf) (t : TurnOf) (s : StepOf) → IsStep g c t s → MayBeTaken s.request s.response s.places
 step_taken g c t s i =
     let P : StepOf → Type 0 = λ x. MayBeTaken x.request x.response x.places in
-    subst P (sym i.is) (taken_at c.request i.full i.moment i.places (places_kept c.request i.response t.fills i.full i.filled i.places i.taken))
+    subst P (sym i.is)
+    (born_taken c.request i.asked (at_moment i.full i.moment) i.places i.born.option i.born.ordered i.born.counted
+    (taken_at c.request i.full i.moment i.places (places_kept c.request i.response t.fills i.full i.filled i.places i.taken)))

@@ -7,28 +7,31 @@ use Rattle.kmipa_attrs.specs.declared.fields.Field.{Field}
 use Rattle.kmipa_attrs.specs.declared.fields.Field.TheVariants.{Absent, Wrong, There}
 use Rattle.kmipa_attrs.specs.Readings.{Optional}
 use Rattle.kmipa_attrs.specs.Fields.{first, at, as_enumeration}
+use Rattle.kmipa_attrs.specs.Sets.{Attributes}
+use Rattle.kmipa_msgs.specs.declared.operation.Operation.{Operation}
 use Rattle.kmipa_msgs.specs.declared.response.Status.{Status}
 use Rattle.kmipa_msgs.specs.declared.response.Status.TheVariants.{Success, Failed, Undone}
 use Rattle.kmipa_msgs.specs.Operations.{operation_number, is_judged}
-use Rattle.kmipa_msgs.specs.Messages.{AskedOf, creates, registers, locates, idles, does_other, AskOf, operation_asked, PayloadOf, AnswerOf, RequestOf, ResponseOf}
+use Rattle.kmipa_msgs.specs.Messages.{AskedOf, creates, registers, locates, gets, gets_attributes, activates, revokes, destroys, idles, does_other, AskOf, operation_asked, PayloadOf, AnswerOf, RequestOf, ResponseOf}
 use Rattle.kmipa_msgs.specs.Tables.{children}
 use Rattle.kmipa_msgs.specs.Headers.{batch}
 use Rattle.kmipa_msgs.specs.Outside.{SaysEach}
 use Rattle.kmipa_msgs.specs.Replies.{own, or_empty, SaysRequired, SaysMaybe, filled, SaysJudged, SaysShown, SaysAnswer}
 use Rattle.kmipa_msgs.specs.Wanted.{NeedsPayload, IsOwn, Wanted}
 use Rattle.kmipa_ops.specs.Objects.{is_other}
-use Rattle.kmipa_ops.specs.Completes.{can_judge, has_payload, may_have, may_lack}
+use Rattle.kmipa_ops.specs.Completes.{can_judge, has_payload, is_idle, is_of, may_have, may_lack}
 use Rattle.kmipa_ops.specs.Explains.{is_readable}
 use Rattle.kmipa_ops.proofs.SayableLemmas.{payload_said}
 use Rattle.kmipa_batch.specs.Calls.{pairs_of}
 use Rattle.kmipa_batch.specs.Readable.{AreReadable, IsReadableCall}
 use Rattle.kmipa_record.specs.Marks.{MarkOf}
-use Rattle.kmipa_record.specs.Witnesses.{FillOf, TurnOf}
+use Rattle.kmipa_record.specs.Witnesses.{BirthOf, FillOf, TurnOf}
+use Rattle.kmipa_check.specs.Births.{IsBorn, IsBornAt, as_asked, asked_with, completed, with_birth}
 use Rattle.kmipa_check.specs.Calls.{CallOf, AreResponse, IsEnded, has_ended, is_open, IsRecorded}
 use Rattle.kmipa_check.specs.Fills.{SaysFill, with_payload, IsFilledAt, stays, put_in, IsFilled}
 use Rattle.kmipa_check.specs.Grants.{GrantsOf}
 use Rattle.kmipa_check.specs.Steps.{StepOf, IsAnswered, recorded, given, IsStep}
-use Rattle.kmipa_check.proofs.FillLemmas.{pair_left, pair_right}
+use Rattle.kmipa_check.proofs.FillLemmas.{pair_at, pair_left, pair_right}
 use Rattle.kmipa_check.proofs.FillingLemmas.{is_wanted_here}
 use Rattle.kmipa_check.proofs.PlaceLemmas.{some_at, at_within}
 
@@ -170,8 +173,76 @@ said_by marks c t response (has_ended e bytes x h says ends is) (recorded had un
     let P : ResponseOf → Type 0 = λ y. AreResponse c.request bytes y in
     (bytes, subst P same says)
 
+-- ---- with births
+
+-- a birth leaves the operation, and what of it can be judged
+born_operation : (asked : AskedOf) (a : Attributes) → operation_asked (asked_with asked a) ≡ operation_asked asked
+born_operation (creates x) a = refl
+born_operation (registers r) a = refl
+born_operation (locates q) a = refl
+born_operation (gets id) a = refl
+born_operation (gets_attributes g) a = refl
+born_operation (activates id) a = refl
+born_operation (revokes r) a = refl
+born_operation (destroys id) a = refl
+born_operation (idles number) a = refl
+born_operation (does_other number) a = refl
+
+judged_alike : (one other : AskedOf) → is_idle one ≡ is_idle other → may_lack one ≡ may_lack other → ((p : PayloadOf) → is_of one p ≡ is_of other p)
+    → (status : Status) (payload : Option PayloadOf) → can_judge status one payload ≡ can_judge status other payload
+judged_alike one other idle lacks same Success None = idle
+judged_alike one other idle lacks same Success (Some p) = same p
+judged_alike one other idle lacks same Failed payload = refl
+judged_alike one other idle lacks same Undone None = lacks
+judged_alike one other idle lacks same Undone (Some p) = same p
+
+born_judged : (status : Status) (asked : AskedOf) (a : Attributes) (payload : Option PayloadOf) → can_judge status (asked_with asked a) payload ≡ can_judge status asked payload
+born_judged status (creates x) a payload = judged_alike (asked_with (creates x) a) (creates x) refl refl (λ p. refl) status payload
+born_judged status (registers r) a payload = judged_alike (asked_with (registers r) a) (registers r) refl refl (λ p. refl) status payload
+born_judged status (locates q) a payload = refl
+born_judged status (gets id) a payload = refl
+born_judged status (gets_attributes g) a payload = refl
+born_judged status (activates id) a payload = refl
+born_judged status (revokes r) a payload = refl
+born_judged status (destroys id) a payload = refl
+born_judged status (idles number) a payload = refl
+born_judged status (does_other number) a payload = refl
+
+born_alike : (ask : AskOf) (answer : AnswerOf) (a : Attributes) → is_readable (with_birth ask a) answer ≡ is_readable ask answer
+born_alike ask answer a =
+    let judge : Bool = can_judge answer.status (asked_with ask.asked a) answer.payload in
+    ap (λ (o : Operation). is_other (λ (x y : ℕ). x == y) answer.operation (operation_number o) || judge) (born_operation ask.asked a)
+    ∙ ap (λ (b : Bool). is_other (λ (x y : ℕ). x == y) answer.operation (operation_number (operation_asked ask.asked)) || b) (born_judged answer.status ask.asked a answer.payload)
+
+readable_born : (g : GrantsOf) (births : List BirthOf) (place : ℕ) (ask full : AskOf) (answer : AnswerOf) → IsBornAt g births place ask full → is_readable ask answer ≡ true → is_readable full answer ≡ true
+readable_born g births place ask full answer (as_asked none is) h = ap (λ (x : AskOf). is_readable x answer) is ∙ h
+readable_born g births place ask full answer (completed birth one its a of is) h = ap (λ (x : AskOf). is_readable x answer) is ∙ born_alike ask answer a ∙ h
+
+readable_pair : (pairs : List (AskOf × AnswerOf)) (place : ℕ) (ask : AskOf) (answer : AnswerOf) → AreReadable pairs → slice_get pairs place ≡ Some (ask, answer) → is_readable ask answer ≡ true
+readable_pair [] place ask answer h there = absurd cc
+readable_pair (pair ∷ pairs) zero ask answer h there =
+    let same : pair ≡ (ask, answer) = cc in
+    let P : AskOf × AnswerOf → Type 0 = λ p. is_readable p.0 p.1 ≡ true in
+    subst P same h.0
+readable_pair (pair ∷ pairs) (suc place) ask answer h there = readable_pair pairs place ask answer h.1 there
+
+-- so a call that can be judged can be with the births put in
+born_readable : (g : GrantsOf) (request asked : RequestOf) (response full : ResponseOf) (births : List BirthOf) → IsBorn g request response births asked → AreReadable (pairs_of request full)
+    → AreReadable (pairs_of asked full)
+born_readable g request asked response full births b all = pairs_readable (pairs_of asked full) (λ place ask answer there. by place ask answer there)
+  where
+    by : (place : ℕ) (born : AskOf) (answer : AnswerOf) → slice_get (pairs_of asked full) place ≡ Some (born, answer) → is_readable born answer ≡ true
+    by place born answer there =
+        let at = pair_left asked.items full.items place born answer there in
+        let answered = pair_right asked.items full.items place born answer there in
+        let ask = some_at request.items place (omega (arith, at_within asked.items place born at, b.counted)) in
+        let pair = pair_at request.items full.items place ask.0 answer ask.1 answered in
+        readable_born g births place ask.0 born answer (b.each place ask.0 born ask.1 at) (readable_pair (pairs_of request full) place ask.0 answer all pair)
+
 pub step_readable : (g : GrantsOf) (marks : List MarkOf) (c : CallOf) (t : TurnOf) (s : StepOf) → IsRecorded marks c → IsStep g c t s → IsReadableCall s.request s.response
 step_readable g marks c t s r i =
     let b = said_by marks c t i.response r.ended i.answered in
     let Q : StepOf → Type 0 = λ x. IsReadableCall x.request x.response in
-    subst Q (sym i.is) (λ unrefused. call_readable c.request b.0 i.response b.1 t.fills i.full i.filled (λ r. unrefused (record { answer = r.answer; alone = r.alone; failed = r.failed; unnamed = r.unnamed })))
+    subst Q (sym i.is) (λ unrefused.
+    born_readable g c.request i.asked i.response i.full t.births i.born
+    (call_readable c.request b.0 i.response b.1 t.fills i.full i.filled (λ r. unrefused (record { answer = r.answer; alone = r.alone; failed = r.failed; unnamed = r.unnamed }))))

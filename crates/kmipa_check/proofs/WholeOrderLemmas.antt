@@ -14,10 +14,10 @@ use Rattle.kmipa_check.specs.declared.numbers.FirstPlaces.{FirstPlaces}
 use Rattle.kmipa_check.specs.declared.fault.WitnessKind.{WitnessKind}
 use Rattle.kmipa_check.specs.declared.fault.WitnessKind.TheVariants.{LeftOut}
 use Rattle.kmipa_msgs.specs.declared.kind.OutsideKind.{OutsideKind}
-use Rattle.kmipa_msgs.specs.Messages.{ResponseOf}
+use Rattle.kmipa_msgs.specs.Messages.{RequestOf, ResponseOf}
 use Rattle.kmipa_msgs.specs.Responses.{SaysResponse, ResponseFault}
 use Rattle.kmipa_check.specs.Calls.{CallOf, AreResponse, AreOutside, call_of}
-use Rattle.kmipa_check.specs.Births.{BirthFault}
+use Rattle.kmipa_check.specs.Births.{BirthFault, IsBorn}
 use Rattle.kmipa_check.specs.Fills.{IsFilled, FillFault}
 use Rattle.kmipa_check.specs.Grants.{GrantsOf}
 use Rattle.kmipa_check.specs.Moments.{IsMoment, IsUntimely}
@@ -31,7 +31,7 @@ use Rattle.kmipa_check.proofs.PlaceLemmas.{mapped_from, contains_at, at_contains
 use Rattle.kmipa_check.proofs.MessageLemmas.{same_message, not_outside}
 use Rattle.kmipa_check.proofs.OnceLemmas.{IsOnce}
 use Rattle.kmipa_check.proofs.OrderLemmas.{formed_below}
-use Rattle.kmipa_check.proofs.BirthLemmas.{no_birth_fault, one_birth_fault}
+use Rattle.kmipa_check.proofs.BornLemmas.{born_right, one_birth_fault, one_born}
 use Rattle.kmipa_check.proofs.FillLemmas.{one_filled, filled_right, one_fill_fault}
 use Rattle.kmipa_check.proofs.PlacesLemmas.{one_places, places_right, one_places_fault}
 
@@ -280,10 +280,15 @@ module _ (g : GrantsOf) (c : CallOf) (t : TurnOf) (response other : ResponseOf) 
       let P : ResponseOf → Type 0 = λ x. FillFault c.request x t.fills another in
       one_fill_fault c.request response t.fills kind another fault (subst P (sym one_response) wrong)
 
-  one_unborn : (kind another : WitnessKind) → BirthFault c.request response t.births kind → BirthFault c.request other t.births another → kind ≡ another
+  never_unborn : (asked : RequestOf) (kind : WitnessKind) → IsBorn g c.request response t.births asked → BirthFault g c.request other t.births kind → ⊥
+  never_unborn asked kind born fault =
+      let P : ResponseOf → Type 0 = λ x. BirthFault g c.request x t.births kind in
+      born_right g c.request response t.births asked kind born (subst P (sym one_response) fault)
+
+  one_unborn : (kind another : WitnessKind) → BirthFault g c.request response t.births kind → BirthFault g c.request other t.births another → kind ≡ another
   one_unborn kind another fault wrong =
-      let P : ResponseOf → Type 0 = λ x. BirthFault c.request x t.births another in
-      one_birth_fault c.request response t.births kind another fault (subst P (sym one_response) wrong)
+      let P : ResponseOf → Type 0 = λ x. BirthFault g c.request x t.births another in
+      one_birth_fault g c.request response t.births kind another fault (subst P (sym one_response) wrong)
 
 -- where they make a step nothing is wrong with what the turn gives
 pub step_right : (g : GrantsOf) (c : CallOf) (t : TurnOf) (s : StepOf) (kind : WitnessKind) → IsStep g c t s → GivenFault g c t kind → ⊥
@@ -291,8 +296,8 @@ step_right g c t s kind i (unfit_answer fault) = answered_right c t i.response k
 step_right g c t s kind i (untimely response had late is) = never_untimely g c t i.response response i.answered had i.moment i.timed late
 step_right g c t s kind i (unfit_places response had moment timed fault) = never_disordered g c t i.response response i.answered had i.places kind i.ordered i.taken fault
 step_right g c t s kind i (unfilled response had moment timed places gives taken fault) = never_unfilled g c t i.response response i.answered had i.full kind i.filled fault
-step_right g c t s kind i (unfit_births response had moment timed places gives taken full filled fault) = no_birth_fault c.request response t.births kind i.no_birth fault
-step_right g c t s kind i (unfit_asides response had moment timed places gives taken full filled none some is) = some i.no_aside
+step_right g c t s kind i (unfit_births response had moment timed places gives taken full filled fault) = never_unborn g c t i.response response i.answered had i.asked kind i.born fault
+step_right g c t s kind i (unfit_asides response had moment timed places gives taken full filled asked born some is) = some i.no_aside
 
 -- and else one thing is
 pub one_given : (g : GrantsOf) (c : CallOf) (t : TurnOf) (kind other : WitnessKind) → GivenFault g c t kind → GivenFault g c t other → kind ≡ other
@@ -301,37 +306,37 @@ one_given g c t kind other (unfit_answer fault) (untimely answer has behind same
 one_given g c t kind other (unfit_answer fault) (unfit_places answer has time times wrong) = absurd (answered_right c t answer kind has fault)
 one_given g c t kind other (unfit_answer fault) (unfilled answer has time times ps give take wrong) = absurd (answered_right c t answer kind has fault)
 one_given g c t kind other (unfit_answer fault) (unfit_births answer has time times ps give take whole fills wrong) = absurd (answered_right c t answer kind has fault)
-one_given g c t kind other (unfit_answer fault) (unfit_asides answer has time times ps give take whole fills without any same) = absurd (answered_right c t answer kind has fault)
+one_given g c t kind other (unfit_answer fault) (unfit_asides answer has time times ps give take whole fills posed bears any same) = absurd (answered_right c t answer kind has fault)
 one_given g c t kind other (untimely response had late is) (unfit_answer wrong) = absurd (answered_right c t response other had wrong)
 one_given g c t kind other (untimely response had late is) (untimely answer has behind same) = is ∙ sym same
 one_given g c t kind other (untimely response had late is) (unfit_places answer has time times wrong) = absurd (never_untimely g c t answer response has had time times late)
 one_given g c t kind other (untimely response had late is) (unfilled answer has time times ps give take wrong) = absurd (never_untimely g c t answer response has had time times late)
 one_given g c t kind other (untimely response had late is) (unfit_births answer has time times ps give take whole fills wrong) = absurd (never_untimely g c t answer response has had time times late)
-one_given g c t kind other (untimely response had late is) (unfit_asides answer has time times ps give take whole fills without any same) = absurd (never_untimely g c t answer response has had time times late)
+one_given g c t kind other (untimely response had late is) (unfit_asides answer has time times ps give take whole fills posed bears any same) = absurd (never_untimely g c t answer response has had time times late)
 one_given g c t kind other (unfit_places response had moment timed fault) (unfit_answer wrong) = absurd (answered_right c t response other had wrong)
 one_given g c t kind other (unfit_places response had moment timed fault) (untimely answer has behind same) = absurd (never_untimely g c t response answer had has moment timed behind)
 one_given g c t kind other (unfit_places response had moment timed fault) (unfit_places answer has time times wrong) = one_disordered g c t response answer had has kind other fault wrong
 one_given g c t kind other (unfit_places response had moment timed fault) (unfilled answer has time times ps give take wrong) = absurd (never_disordered g c t answer response has had ps kind give take fault)
 one_given g c t kind other (unfit_places response had moment timed fault) (unfit_births answer has time times ps give take whole fills wrong) = absurd (never_disordered g c t answer response has had ps kind give take fault)
-one_given g c t kind other (unfit_places response had moment timed fault) (unfit_asides answer has time times ps give take whole fills without any same) = absurd (never_disordered g c t answer response has had ps kind give take fault)
+one_given g c t kind other (unfit_places response had moment timed fault) (unfit_asides answer has time times ps give take whole fills posed bears any same) = absurd (never_disordered g c t answer response has had ps kind give take fault)
 one_given g c t kind other (unfilled response had moment timed places gives taken fault) (unfit_answer wrong) = absurd (answered_right c t response other had wrong)
 one_given g c t kind other (unfilled response had moment timed places gives taken fault) (untimely answer has behind same) = absurd (never_untimely g c t response answer had has moment timed behind)
 one_given g c t kind other (unfilled response had moment timed places gives taken fault) (unfit_places answer has time times wrong) = absurd (never_disordered g c t response answer had has places other gives taken wrong)
 one_given g c t kind other (unfilled response had moment timed places gives taken fault) (unfilled answer has time times ps give take wrong) = one_unfilled g c t response answer had has kind other fault wrong
 one_given g c t kind other (unfilled response had moment timed places gives taken fault) (unfit_births answer has time times ps give take whole fills wrong) = absurd (never_unfilled g c t answer response has had whole kind fills fault)
-one_given g c t kind other (unfilled response had moment timed places gives taken fault) (unfit_asides answer has time times ps give take whole fills without any same) = absurd (never_unfilled g c t answer response has had whole kind fills fault)
+one_given g c t kind other (unfilled response had moment timed places gives taken fault) (unfit_asides answer has time times ps give take whole fills posed bears any same) = absurd (never_unfilled g c t answer response has had whole kind fills fault)
 one_given g c t kind other (unfit_births response had moment timed places gives taken full filled fault) (unfit_answer wrong) = absurd (answered_right c t response other had wrong)
 one_given g c t kind other (unfit_births response had moment timed places gives taken full filled fault) (untimely answer has behind same) = absurd (never_untimely g c t response answer had has moment timed behind)
 one_given g c t kind other (unfit_births response had moment timed places gives taken full filled fault) (unfit_places answer has time times wrong) = absurd (never_disordered g c t response answer had has places other gives taken wrong)
 one_given g c t kind other (unfit_births response had moment timed places gives taken full filled fault) (unfilled answer has time times ps give take wrong) = absurd (never_unfilled g c t response answer had has full other filled wrong)
 one_given g c t kind other (unfit_births response had moment timed places gives taken full filled fault) (unfit_births answer has time times ps give take whole fills wrong) = one_unborn g c t response answer had has kind other fault wrong
-one_given g c t kind other (unfit_births response had moment timed places gives taken full filled fault) (unfit_asides answer has time times ps give take whole fills without any same) = absurd (no_birth_fault c.request response t.births kind without fault)
-one_given g c t kind other (unfit_asides response had moment timed places gives taken full filled none some is) (unfit_answer wrong) = absurd (answered_right c t response other had wrong)
-one_given g c t kind other (unfit_asides response had moment timed places gives taken full filled none some is) (untimely answer has behind same) = absurd (never_untimely g c t response answer had has moment timed behind)
-one_given g c t kind other (unfit_asides response had moment timed places gives taken full filled none some is) (unfit_places answer has time times wrong) = absurd (never_disordered g c t response answer had has places other gives taken wrong)
-one_given g c t kind other (unfit_asides response had moment timed places gives taken full filled none some is) (unfilled answer has time times ps give take wrong) = absurd (never_unfilled g c t response answer had has full other filled wrong)
-one_given g c t kind other (unfit_asides response had moment timed places gives taken full filled none some is) (unfit_births answer has time times ps give take whole fills wrong) = absurd (no_birth_fault c.request answer t.births other none wrong)
-one_given g c t kind other (unfit_asides response had moment timed places gives taken full filled none some is) (unfit_asides answer has time times ps give take whole fills without any same) = is ∙ sym same
+one_given g c t kind other (unfit_births response had moment timed places gives taken full filled fault) (unfit_asides answer has time times ps give take whole fills posed bears any same) = absurd (never_unborn g c t answer response has had posed kind bears fault)
+one_given g c t kind other (unfit_asides response had moment timed places gives taken full filled asked born some is) (unfit_answer wrong) = absurd (answered_right c t response other had wrong)
+one_given g c t kind other (unfit_asides response had moment timed places gives taken full filled asked born some is) (untimely answer has behind same) = absurd (never_untimely g c t response answer had has moment timed behind)
+one_given g c t kind other (unfit_asides response had moment timed places gives taken full filled asked born some is) (unfit_places answer has time times wrong) = absurd (never_disordered g c t response answer had has places other gives taken wrong)
+one_given g c t kind other (unfit_asides response had moment timed places gives taken full filled asked born some is) (unfilled answer has time times ps give take wrong) = absurd (never_unfilled g c t response answer had has full other filled wrong)
+one_given g c t kind other (unfit_asides response had moment timed places gives taken full filled asked born some is) (unfit_births answer has time times ps give take whole fills wrong) = absurd (never_unborn g c t response answer had has asked other born wrong)
+one_given g c t kind other (unfit_asides response had moment timed places gives taken full filled asked born some is) (unfit_asides answer has time times ps give take whole fills posed bears any same) = is ∙ sym same
 
 -- a call and a turn make one step
 pub one_step_lem : (g : GrantsOf) (c : CallOf) (t : TurnOf) (s u : StepOf) → IsStep g c t s → IsStep g c t u → s ≡ u
@@ -339,9 +344,11 @@ one_step_lem g c t s u a b =
     let same = one_answer c t b.response a.response b.answered a.answered in
     let P : ResponseOf → Type 0 = λ x. IsFilled c.request x t.fills b.full in
     let Q : ResponseOf → Type 0 = λ x. IsMoment g x.stamp t.moment b.moment in
-    a.is ∙ ap (λ (r : ResponseOf). step_at c r a.moment a.places) (one_filled c.request a.response t.fills a.full b.full a.filled (subst P same b.filled))
-    ∙ ap (λ (m : ℤ). step_at c b.full m a.places) (one_moment g a.response.stamp t.moment a.moment b.moment a.timed (subst Q same b.timed))
-    ∙ ap (step_at c b.full b.moment) (one_places t.places a.places b.places a.ordered b.ordered) ∙ sym b.is
+    let R : ResponseOf → Type 0 = λ x. IsBorn g c.request x t.births b.asked in
+    a.is ∙ ap (λ (r : RequestOf). step_at c r a.full a.moment a.places) (one_born g c.request a.response t.births a.asked b.asked a.born (subst R same b.born))
+    ∙ ap (λ (r : ResponseOf). step_at c b.asked r a.moment a.places) (one_filled c.request a.response t.fills a.full b.full a.filled (subst P same b.filled))
+    ∙ ap (λ (m : ℤ). step_at c b.asked b.full m a.places) (one_moment g a.response.stamp t.moment a.moment b.moment a.timed (subst Q same b.timed))
+    ∙ ap (step_at c b.asked b.full b.moment) (one_places t.places a.places b.places a.ordered b.ordered) ∙ sym b.is
 
 -- and a witness gives one order
 pub one_order_lem : (g : GrantsOf) (calls : List CallOf) (turns : List TurnOf) (steps others : List StepOf) → IsOnce (map number_of calls) → IsOrder g calls turns steps → IsOrder g calls turns others → steps ≡ others

@@ -31,10 +31,9 @@ pub record AreAccepted (t d w : List ℕ) : Type 0 where
 -- the bytes are the records that the audit hands out, and the verdict is one of them
 pub record AreJudged (audited : Audited) (t d w : List ℕ) : Type 0 where
   pub transcript : IsTranscript t (transcript_of audited.transcript)
-  pub declared : DeclarationOf
-  pub declaration : IsDeclaration d declared
+  pub declaration : IsDeclaration d (declaration_of audited.declaration)
   pub witness : IsWitness w (witness_of audited.witness)
-  pub verdict : TellsVerdict (transcript_of audited.transcript) declared (witness_of audited.witness) audited.verdict
+  pub verdict : TellsVerdict (transcript_of audited.transcript) (declaration_of audited.declaration) (witness_of audited.witness) audited.verdict
 
 -- the bytes are some records, and the verdict is right for these
 pub record AreJudgedAs (said : Verdict) (t d w : List ℕ) : Type 0 where

@@ -1,21 +1,29 @@
--- What a turn of a witness says of births: the attributes that the server itself gives the objects that a call brings forth (profile). No
--- declaration that is judged names an attribute that a server may give of its own. So a birth that is wanted has none to give, and is refused
--- for its form.
-use Rattle.std.specs.Prelude.{◌≡◌, ◌≢◌, ℕ, ◌+◌, ℤ, pos, List, [], AllPairs, Contains, slice_get, Some}
+-- What a turn of a witness says of births: the attributes that the server itself gives the objects that a call brings forth (profile). A birth
+-- completes the request of its item as a fill completes a response, and the completed request is judged.
+use Rattle.std.specs.Prelude.{◌≡◌, ◌≢◌, ℕ, ◌+◌, ℤ, pos, List, length, AllPairs, Contains, slice_get, Some}
+use Rattle.std.specs.Option.{option_or}
+use Rattle.kmipa_ttlv.specs.Tree.{Tree, Trees, structure, scalar, none, more, tag_of}
+use Rattle.kmipa_attrs.specs.Attributes.{SaysSet, SetFault}
+use Rattle.kmipa_attrs.specs.Names.{with_names}
+use Rattle.kmipa_attrs.specs.Readings.{Says}
+use Rattle.kmipa_attrs.specs.Sets.{Attributes}
+use Rattle.kmipa_attrs.specs.declared.side.Side.TheVariants.{Client}
+use Rattle.kmipa_record.specs.Lines.{own_tag}
 use Rattle.kmipa_record.specs.Witnesses.{BirthOf}
+use Rattle.kmipa_record.specs.declared.own_attribute.OwnAttribute.{OwnAttribute}
 use Rattle.kmipa_msgs.specs.declared.operation.Operation.{Operation}
 use Rattle.kmipa_msgs.specs.declared.operation.Operation.TheVariants.{Create, Register}
 use Rattle.kmipa_msgs.specs.declared.response.Status.{Status}
 use Rattle.kmipa_msgs.specs.declared.response.Status.TheVariants.{Success, Undone}
 use Rattle.kmipa_msgs.specs.Operations.{operation_number}
-use Rattle.kmipa_msgs.specs.Messages.{AskOf, AnswerOf, RequestOf, ResponseOf, operation_asked}
+use Rattle.kmipa_msgs.specs.Messages.{AskedOf, creates, registers, AskOf, AnswerOf, RequestOf, ResponseOf, operation_asked}
 use Rattle.kmipa_msgs.specs.Wanted.{IsOwn}
 use Rattle.kmipa_batch.specs.Calls.{pairs_of}
-use Rattle.kmipa_check.specs.Numbers.{AreWantedOnce}
-use Rattle.kmipa_check.specs.declared.fault.StepFault.{StepFault}
-use Rattle.kmipa_check.specs.declared.fault.StepFault.TheVariants.{Unfit, Memory}
+use Rattle.kmipa_check.specs.Grants.{GrantsOf}
 use Rattle.kmipa_check.specs.declared.fault.WitnessKind.{WitnessKind}
 use Rattle.kmipa_check.specs.declared.fault.WitnessKind.TheVariants.{BirthNotWanted, BirthForm}
+
+-- ---- where births are wanted
 
 -- the operation brings forth an object
 abbrev pub BringsForth : Operation → Type 0
@@ -53,18 +61,90 @@ pub record AreBirthsWanted (request : RequestOf) (response : ResponseOf) (births
   pub each : (birth : BirthOf) → Contains births birth → IsBirthWanted request response birth.item
   pub once : AllPairs (λ (a b : BirthOf). a.item ≢ b.item) births
 
--- the first fault of births: one that isn't wanted; else that there is one
-pub data BirthFault (request : RequestOf) (response : ResponseOf) (births : List BirthOf) (kind : WitnessKind) : Type 0 where
-  not_wanted : (AreBirthsWanted request response births → ⊥) → kind ≡ BirthNotWanted → BirthFault request response births kind
-  formless : AreBirthsWanted request response births → births ≢ [] → kind ≡ BirthForm → BirthFault request response births kind
+-- ---- what a birth gives
 
--- ---- how births are tested, not promised
+-- the server itself may give an attribute of this tag
+abbrev pub IsGranted : GrantsOf → ℕ → Type 0
+IsGranted g tag = (attribute : OwnAttribute) × Contains g.own attribute × (own_tag attribute ≡ tag)
 
--- the births are refused
-abbrev pub BirthsRefused : RequestOf → ResponseOf → List BirthOf → StepFault → Type 0
-BirthsRefused request response births (Unfit kind) = BirthFault request response births kind
-BirthsRefused request response births Memory = Unit {0}
+-- it may give each of these
+abbrev pub AreGranted : GrantsOf → Trees → Type 0
+AreGranted g none = Unit {0}
+AreGranted g (more t ts) = IsGranted g (tag_of t) × AreGranted g ts
 
--- each of the first births is for an item that brings forth an object, and none of them is for the item of an earlier one
-abbrev pub AreBirthsBelow : RequestOf → ResponseOf → List BirthOf → ℕ → Type 0
-AreBirthsBelow request response births count = AreWantedOnce (λ (b : BirthOf). b.item) (IsBirthWanted request response) births count
+-- there are some, and it may give each
+abbrev pub AreSomeGranted : GrantsOf → Trees → Type 0
+AreSomeGranted g none = ⊥
+AreSomeGranted g (more t ts) = IsGranted g (tag_of t) × AreGranted g ts
+
+-- the item has children, and the server itself may give each of them
+abbrev pub HasGranted : GrantsOf → Tree → Type 0
+HasGranted g (structure n ts) = AreSomeGranted g ts
+HasGranted g (scalar n s) = ⊥
+
+-- the birth gives these attributes: it says them as a client would, and the server itself may give each
+pub record IsBirthOf (g : GrantsOf) (birth : BirthOf) (attributes : Attributes) : Type 0 where
+  pub says : Says (SaysSet birth.attributes) (SetFault Client birth.attributes) attributes
+  pub granted : HasGranted g birth.attributes
+
+-- the birth gives no attributes that a server may give
+abbrev pub IsMisformed : GrantsOf → BirthOf → Type 0
+IsMisformed g birth = (attributes : Attributes) → IsBirthOf g birth attributes → ⊥
+
+-- ---- what it makes of a request
+
+-- The attributes of an object for which a client gave some, and the server itself others: the names of both, each once; and of single values
+-- that of the birth, or else the client's.
+abbrev pub born_with : Attributes → Attributes → Attributes
+born_with given birth = record {
+  names = with_names given.names birth.names;
+  object_type = option_or birth.object_type given.object_type;
+  algorithm = option_or birth.algorithm given.algorithm;
+  length = option_or birth.length given.length;
+  mask = option_or birth.mask given.mask;
+  state = option_or birth.state given.state;
+  initial = option_or birth.initial given.initial;
+  activation = option_or birth.activation given.activation;
+  deactivation = option_or birth.deactivation given.deactivation;
+  destroy = option_or birth.destroy given.destroy;
+  compromise = option_or birth.compromise given.compromise;
+}
+
+-- what is asked for with these attributes of a birth
+abbrev pub asked_with : AskedOf → Attributes → AskedOf
+asked_with (creates a) birth = creates (born_with a birth)
+asked_with (registers r) birth = registers (record r { attributes = born_with r.attributes birth })
+asked_with asked birth = asked
+
+abbrev pub with_birth : AskOf → Attributes → AskOf
+with_birth ask birth = record ask { asked = asked_with ask.asked birth }
+
+-- the birth is for the item at this place
+abbrev pub IsBirthFor : BirthOf → ℕ → Type 0
+IsBirthFor birth place = birth.item ≡ pos (place + 1)
+
+-- what becomes of the ask at a place: it has the attributes that its birth gives, or stays as it is where there is no birth for it
+pub data IsBornAt (g : GrantsOf) (births : List BirthOf) (place : ℕ) (ask full : AskOf) : Type 0 where
+  as_asked : ((birth : BirthOf) → Contains births birth → IsBirthFor birth place → ⊥) → full ≡ ask → IsBornAt g births place ask full
+  completed : (birth : BirthOf) → Contains births birth → IsBirthFor birth place → (attributes : Attributes) → IsBirthOf g birth attributes
+      → full ≡ with_birth ask attributes → IsBornAt g births place ask full
+
+-- the full request is the other one with the births put in
+pub record IsBorn (g : GrantsOf) (request : RequestOf) (response : ResponseOf) (births : List BirthOf) (full : RequestOf) : Type 0 where
+  pub wanted : AreBirthsWanted request response births
+  pub option : full.option ≡ request.option
+  pub ordered : full.ordered ≡ request.ordered
+  pub counted : length full.items ≡ length request.items
+  pub each : (place : ℕ) (ask born : AskOf) → slice_get request.items place ≡ Some ask → slice_get full.items place ≡ Some born
+      → IsBornAt g births place ask born
+
+-- one of the births gives no attributes that the server may give
+pub record SomeMisformed (g : GrantsOf) (births : List BirthOf) : Type 0 where
+  pub birth : BirthOf
+  pub one : Contains births birth
+  pub misformed : IsMisformed g birth
+
+-- the first fault of births: one that isn't wanted; else one without the form
+pub data BirthFault (g : GrantsOf) (request : RequestOf) (response : ResponseOf) (births : List BirthOf) (kind : WitnessKind) : Type 0 where
+  not_wanted : (AreBirthsWanted request response births → ⊥) → kind ≡ BirthNotWanted → BirthFault g request response births kind
+  formless : AreBirthsWanted request response births → SomeMisformed g births → kind ≡ BirthForm → BirthFault g request response births kind

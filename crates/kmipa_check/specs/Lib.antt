@@ -2,6 +2,7 @@ pub mod Calls
 pub mod Fills
 pub mod Grants
 pub mod Moments
+pub mod Bearing
 pub mod Births
 pub mod Places
 pub mod Steps

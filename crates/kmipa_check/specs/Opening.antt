@@ -4,6 +4,7 @@ use Rattle.std.specs.List.{AllZip}
 use Rattle.kmipa_object.specs.Inventory.{Thing, IsInventory, rule_of}
 use Rattle.kmipa_object.specs.declared.life.Material.{Material}
 use Rattle.kmipa_object.specs.declared.life.Material.TheVariants.{Gone, Secret}
+use Rattle.kmipa_store.specs.Aside.{nothing_aside}
 use Rattle.kmipa_store.specs.Ledger.{Held, Known, Meaning, LedgerState, bytes_at, cards_of, changed}
 use Rattle.kmipa_store.specs.Choices.{Choice, Chooses, IsSound, inv}
 use Rattle.kmipa_store.specs.declared.fault.StoreFault.{StoreFault}
@@ -22,10 +23,11 @@ held_declared e material = record { card = card_declared e; material = material 
 
 -- with the object of an entry after the others: without bytes where it has a Destroy Date, else with a secret of its own
 abbrev pub with_declared_at : Option ℤ → Meaning → EntryOf → Meaning
-with_declared_at (Some date) m e = record { objects = m.objects ++ held_declared e Gone ∷ []; secrets = m.secrets }
+with_declared_at (Some date) m e = record { objects = m.objects ++ held_declared e Gone ∷ []; secrets = m.secrets; aside = m.aside }
 with_declared_at None m e = record {
   objects = m.objects ++ held_declared e (Secret (record { number = length m.secrets })) ∷ [];
   secrets = m.secrets ++ known_declared e ∷ [];
+  aside = m.aside;
 }
 
 abbrev pub with_declared : Meaning → EntryOf → Meaning
@@ -38,7 +40,11 @@ opened_from m (e ∷ es) = opened_from (with_declared m e) es
 
 -- what a ledger means that a declaration of these entries opens
 abbrev pub opened_by : List EntryOf → Meaning
-opened_by entries = opened_from (record { objects = []; secrets = [] }) entries
+opened_by entries = opened_from (record { objects = []; secrets = []; aside = nothing_aside }) entries
+
+-- the objects and the secrets are those of such a ledger, whatever is set aside
+abbrev pub StandsAsOpened : Meaning → List EntryOf → Type 0
+StandsAsOpened m entries = record { objects = m.objects; secrets = m.secrets; aside = nothing_aside } ≡ opened_by entries
 
 -- the next number of a secret behind an object: that of this one is the next, or it has none
 abbrev pub IsNextNumber : Material → ℕ → ℕ → Type 0
@@ -50,7 +56,7 @@ abbrev pub PlacedAt : Option ℤ → LedgerState → EntryOf → Material → Le
 PlacedAt (Some date) s e material t = (material ≡ Gone) × (t ≡ s)
 PlacedAt None s e material t =
     (material ≡ Secret (record { number = length s.now.secrets }))
-    × (t ≡ changed s (record { objects = s.now.objects; secrets = s.now.secrets ++ known_declared e ∷ [] }))
+    × (t ≡ changed s (record { objects = s.now.objects; secrets = s.now.secrets ++ known_declared e ∷ []; aside = s.now.aside }))
 
 -- only want of memory refuses it
 abbrev pub Places : LedgerState → EntryOf → Result Material StoreFault → LedgerState → Type 0

@@ -1,11 +1,11 @@
 -- The order of a witness: each turn names a call and makes a step with it, and no call is named twice or left out.
 use Rattle.std.specs.Prelude.{◌≡◌, ◌≢◌, ◌<◌, ℕ, ◌+◌, ℤ, pos, List, [], Contains, slice_get, length, Option, Some, None}
 use Rattle.kmipa_record.specs.Witnesses.{TurnOf}
-use Rattle.kmipa_msgs.specs.Messages.{ResponseOf}
+use Rattle.kmipa_msgs.specs.Messages.{RequestOf, ResponseOf}
 use Rattle.kmipa_msgs.specs.declared.kind.OutsideKind.{OutsideKind}
 use Rattle.kmipa_msgs.specs.Responses.{ResponseFault}
 use Rattle.kmipa_check.specs.Calls.{CallOf, AreOutside}
-use Rattle.kmipa_check.specs.Births.{BirthFault}
+use Rattle.kmipa_check.specs.Births.{BirthFault, IsBorn}
 use Rattle.kmipa_check.specs.Fills.{IsFilled, FillFault}
 use Rattle.kmipa_check.specs.Grants.{GrantsOf}
 use Rattle.kmipa_check.specs.Moments.{IsMoment, IsUntimely}
@@ -72,10 +72,11 @@ pub data GivenFault (g : GrantsOf) (c : CallOf) (t : TurnOf) (kind : WitnessKind
       → FillFault c.request response t.fills kind → GivenFault g c t kind
   unfit_births : (response : ResponseOf) → IsAnswered c t response → (moment : ℤ) → IsMoment g response.stamp t.moment moment
       → (places : Option (List ℕ)) → GivesPlaces t.places places → MayBeTaken c.request response places
-      → (full : ResponseOf) → IsFilled c.request response t.fills full → BirthFault c.request response t.births kind → GivenFault g c t kind
+      → (full : ResponseOf) → IsFilled c.request response t.fills full → BirthFault g c.request response t.births kind → GivenFault g c t kind
   unfit_asides : (response : ResponseOf) → IsAnswered c t response → (moment : ℤ) → IsMoment g response.stamp t.moment moment
       → (places : Option (List ℕ)) → GivesPlaces t.places places → MayBeTaken c.request response places
-      → (full : ResponseOf) → IsFilled c.request response t.fills full → t.births ≡ [] → t.asides ≢ [] → kind ≡ AsideForm → GivenFault g c t kind
+      → (full : ResponseOf) → IsFilled c.request response t.fills full
+      → (asked : RequestOf) → IsBorn g c.request response t.births asked → t.asides ≢ [] → kind ≡ AsideForm → GivenFault g c t kind
 
 -- what it comes to where the turn makes no step with the call; want of memory tells nothing
 abbrev pub Refuses : GrantsOf → CallOf → TurnOf → StepFault → Type 0

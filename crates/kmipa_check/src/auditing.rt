@@ -23,6 +23,7 @@ use thiserror::Error;
 pub struct Audited {
     pub verdict: Verdict,
     pub transcript: Transcript,
+    pub declaration: Declaration,
     pub witness: Witness,
 }
 
@@ -115,6 +116,7 @@ pub fn audit_with<R: Read>(
         Ok(verdict) => Ok(Audited {
             verdict,
             transcript: records.transcript,
+            declaration: records.declaration,
             witness: records.witness,
         }),
         Err(fault) => Err(AuditFault::Check(fault)),

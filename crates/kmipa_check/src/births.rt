@@ -1,39 +1,51 @@
-//! Births: attributes that a turn says the server itself gave to what its call brought forth. No declaration that is judged names such an
-//! attribute, so every birth is refused.
+//! Births: attributes that a turn says the server itself gave to what its call brought forth.
 
-ghost use Rattle.std.specs.Prelude.{◌≡◌, ◌↔◌, [], IsTrue, None, Some, map, MatchResult};
+ghost use Rattle.std.specs.Prelude.{◌↔◌, IsTrue, None, Some, map, MatchResult};
 ghost use Rattle.kmipa_msgs.specs.Messages.{answer_of, ask_of, request_of, response_of};
 ghost use Rattle.kmipa_msgs.specs.Wanted.{IsOwn};
 ghost use Rattle.kmipa_record.specs.Witnesses.{birth_of};
-ghost use Rattle.kmipa_check.specs.Births.{AreBirthsWanted, Bears, BirthsRefused, BringsForth, IsBirth, IsBirthWanted, WasDone};
+ghost use Rattle.kmipa_check.specs.Bearing.{BirthsRefused, HaveNumbers};
+ghost use Rattle.kmipa_check.specs.Births.{AreBirthsWanted, Bears, BringsForth, IsBirth, IsBirthWanted, IsBorn, WasDone};
 ghost use Rattle.kmipa_check.specs.Deciding.{Decided};
+ghost use Rattle.kmipa_check.specs.Grants.{grants_of};
 ghost use Rattle.kmipa_check.specs.Numbers.{Indexes};
+ghost use Rattle.kmipa_check.specs.Steps.{posed_of};
 
+use crate::completing::completed;
 use crate::fault::{StepFault, WitnessKind};
 use crate::filling::item_place;
+use crate::grants::Grants;
 use crate::numbers::FirstPlaces;
+use crate::step::Posed;
 use kmipa_msgs::{Answer, Ask, Operation, Request, Response, Status};
 use kmipa_record::Birth;
 use std::alloc::Global;
 
-/// Tests that there are no births; or why those that there are are refused.
-pub fn no_births(
+/// The request of a call with the births of a turn put in; or why they are refused.
+pub fn born_in<'b, 'a>(
     alloc: Global,
-    request: &Request,
+    grants: &Grants,
+    request: &'b Request<'a>,
     response: &Response,
     births: &[Birth],
-) -> Result<(), StepFault>
-    ensures { MatchResult result (λ done. map birth_of births.now ≡ [])
-        (BirthsRefused (request_of request.now) (response_of response.now) (map birth_of births.now)) }
+) -> Result<Posed<'b, 'a>, StepFault>
+    ensures { MatchResult result
+        (λ posed. IsBorn (grants_of grants.now) (request_of request.now) (response_of response.now)
+        (map birth_of births.now) (posed_of posed))
+        (BirthsRefused (grants_of grants.now) (request_of request.now) (response_of response.now)
+        (map birth_of births.now)) }
 {
     if births.is_empty() {
-        return Ok(());
+        return Ok(Posed::Recorded(request));
     }
     let places = FirstPlaces::of(alloc, births)?;
     if !are_births_wanted(request, response, births, &places) {
         return Err(StepFault::Unfit(WitnessKind::BirthNotWanted));
     }
-    Err(StepFault::Unfit(WitnessKind::BirthForm))
+    match completed(alloc, grants, request, births, &places) {
+        Ok(full) => Ok(Posed::completed(alloc, full)?),
+        Err(fault) => Err(fault),
+    }
 }
 
 /// Whether each birth is for an item that brings forth an object, and no two are for one item. The places are those where an item's number
@@ -45,8 +57,9 @@ fn are_births_wanted(
     places: &FirstPlaces,
 ) -> bool
     requires { Indexes (map (λ birth. Some birth.item) births.now) places.now }
-    ensures { Decided result
+    ensures decided { Decided result
         (AreBirthsWanted (request_of request.now) (response_of response.now) (map birth_of births.now)) }
+    ensures numbered { IsTrue result → HaveNumbers (map birth_of births.now) }
 {
     let mut at = 0;
     'births: while at < births.len() {

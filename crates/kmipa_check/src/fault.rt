@@ -82,7 +82,7 @@ pub enum WitnessKind {
     MomentForm = 12,
     /// A birth is given where no object is brought forth, or a second one for one item.
     BirthNotWanted = 13,
-    /// A birth gives what the server may not give of its own: as yet nothing may be given so.
+    /// A birth gives no attributes, or has a fault, or gives one that the server may not give of its own.
     BirthForm = 14,
     /// A place is set aside: as yet none may be.
     AsideForm = 15,
@@ -141,6 +141,17 @@ impl From<AllocError> for StepFault {
     ghost from_gives = { λ _ e. e ≡ Memory };
 
     fn from(_e: AllocError) -> StepFault {
+        StepFault::Memory
+    }
+}
+
+impl<T: Drop> From<AllocFailed<T>> for StepFault {
+    ghost use Rattle.std.specs.Prelude.{◌≡◌};
+    ghost use Rattle.kmipa_check.specs.declared.fault.StepFault.TheVariants.{Memory};
+
+    ghost from_gives = { λ _ e. e ≡ Memory };
+
+    fn from(_e: AllocFailed<T>) -> StepFault {
         StepFault::Memory
     }
 }

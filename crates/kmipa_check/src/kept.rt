@@ -1,11 +1,12 @@
 //! A ledger that segments are judged on one after the other.
 
 ghost use Rattle.std.specs.Prelude.{◌≡◌, [], IfErr, IfOk, IfSome, IsTrue, length, map, take};
+ghost use Rattle.kmipa_store.specs.Aside.{nothing_aside};
 ghost use Rattle.kmipa_store.specs.Choices.{IsSound};
 ghost use Rattle.kmipa_store.specs.States.{state_of_journal};
 ghost use Rattle.kmipa_record.specs.Declarations.{AreDeclared, DeclarationOf, declaration_of};
 ghost use Rattle.kmipa_check.specs.Left.{declaration_left, entry_left};
-ghost use Rattle.kmipa_check.specs.Opening.{IsNextNumber, opened_by};
+ghost use Rattle.kmipa_check.specs.Opening.{IsNextNumber, StandsAsOpened, opened_by};
 ghost use Rattle.kmipa_check.specs.Verdicts.{AreKnown};
 
 use crate::fault::CheckFault;
@@ -23,7 +24,7 @@ pub fn kept_or_opened(
 ) -> Result<Journal, CheckFault>
     requires declared { AreDeclared (declaration_of declaration.now) }
     requires stands { IfSome kept (λ ledger.
-        (state_of_journal ledger).now ≡ opened_by (declaration_of declaration.now).entries) }
+        StandsAsOpened (state_of_journal ledger).now (declaration_of declaration.now).entries) }
     ensures known { IfOk result
         (λ ledger. AreKnown (declaration_of declaration.now) [] (state_of_journal ledger).now) }
     ensures sound { IfOk result (λ ledger. IsSound (state_of_journal ledger).now) }
@@ -40,8 +41,8 @@ pub fn kept_or_opened(
 pub fn stands_as_opened<L: Ledger>(ledger: &mut L) -> bool
     requires { IsSound (L.state ledger.old).now }
     ensures same { L.state ledger.new ≡ L.state ledger.old }
-    ensures opened { IsTrue result → (L.state ledger.old).now
-        ≡ opened_by (map (entry_left (L.state ledger.old).now.secrets) (L.state ledger.old).now.objects) }
+    ensures opened { IsTrue result → StandsAsOpened (L.state ledger.old).now
+        (map (entry_left (L.state ledger.old).now.secrets) (L.state ledger.old).now.objects) }
 {
     let Some(all) = count_secrets(ledger) else {
         return false;
@@ -76,6 +77,7 @@ fn count_own<L: Ledger>(ledger: &L) -> Option<usize>
         ≡ record {
           objects = (L.state ledger.now).now.objects;
           secrets = take count (L.state ledger.now).now.secrets;
+          aside = nothing_aside;
         }) }
 {
     let mut next = 0;

@@ -81,7 +81,7 @@ fn take_turn<L: Ledger>(
         alloc,
         ledger,
         rules,
-        step.request,
+        step.request(),
         step.response.response(),
         step.places(),
     ) {

@@ -15,7 +15,7 @@ ghost use Rattle.kmipa_check.specs.SegmentReplays.{FirstTold, IsHeldAs, IsLeftSi
 ghost use Rattle.kmipa_check.specs.Segments.{Leads};
 ghost use Rattle.kmipa_check.specs.Since.{ChecksSince, checked_alone, last_stamp, verdict_told};
 ghost use Rattle.kmipa_check.specs.Steps.{step_of};
-ghost use Rattle.kmipa_check.specs.Opening.{opened_by};
+ghost use Rattle.kmipa_check.specs.Opening.{StandsAsOpened};
 ghost use Rattle.kmipa_check.specs.Verdicts.{AreKnown};
 
 use crate::fault::CheckFault;
@@ -94,7 +94,7 @@ pub fn check_segment_on(
 ) -> Result<CheckedOn, CheckFault>
     requires declared { AreDeclared (declaration_of declaration.now) }
     requires stands { IfSome kept (λ ledger.
-        (state_of_journal ledger).now ≡ opened_by (declaration_of declaration.now).entries) }
+        StandsAsOpened (state_of_journal ledger).now (declaration_of declaration.now).entries) }
     ensures checks { AreRecorded (transcript_of transcript.now)
         → ChecksSince (transcript_of transcript.now) (declaration_of declaration.now) since (witness_of witness.now)
         (verdict_told (checked_alone result)) }
@@ -103,7 +103,7 @@ pub fn check_segment_on(
         Leads (declaration_of declaration.now) since (transcript_of transcript.now) (witness_of witness.now)
         (declaration_of left.declaration) left.until)) }
     ensures stands { IfOk result (λ on. IfSome on.ledger (λ ledger. IfSome on.checked.left (λ left.
-        (state_of_journal ledger).now ≡ opened_by (declaration_of left.declaration).entries))) }
+        StandsAsOpened (state_of_journal ledger).now (declaration_of left.declaration).entries))) }
 {
     let mut ledger = kept_or_opened(alloc, declaration, kept)?;
     let checked = check_over(alloc, transcript, declaration, witness, since, &mut ledger)?;
@@ -203,7 +203,10 @@ fn refused_first(steps: &[Step], since: Option<i64>) -> Option<Refused>
     let Some(first) = steps.first() else {
         return None;
     };
-    if first.moment() >= moment || is_at(first_late(steps), 0) {
+    if first.moment() >= moment {
+        return None;
+    }
+    if is_at(first_late(steps), 0) {
         return None;
     }
     Some(refused_turn(0, first, Why::StampRunsBack))

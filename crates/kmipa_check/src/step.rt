@@ -12,7 +12,8 @@ pub struct Step<'b, 'a> {
     pub begin: usize,
     /// The place of its end mark; none of a call that is open.
     pub end: Option<usize>,
-    pub request: &'b Request<'a>,
+    /// The request that it takes.
+    pub request: Posed<'b, 'a>,
     /// The response that it is to give. Its stamp is the moment at which the call is taken.
     pub response: Given<'b, 'a>,
     /// The Time Stamp of the response, as it was recorded or answered.
@@ -23,8 +24,15 @@ pub struct Step<'b, 'a> {
 
 impl<'b, 'a> Step<'b, 'a> {
     ghost use Rattle.std.specs.Prelude.{◌≡◌};
-    ghost use Rattle.kmipa_msgs.specs.Messages.{maybe_lent};
+    ghost use Rattle.kmipa_msgs.specs.Messages.{maybe_lent, request_of};
     ghost use Rattle.kmipa_check.specs.Steps.{step_of};
+
+    /// The request that it takes.
+    pub fn request(&self) -> &Request<'a>
+        ensures { request_of result.now ≡ (step_of self.now).request }
+    {
+        self.request.request()
+    }
 
     /// The places of its items, counted from 1, in the order in which they are taken; `None`: by place.
     pub fn places(&self) -> Option<&[usize]>
@@ -41,6 +49,41 @@ impl<'b, 'a> Step<'b, 'a> {
         ensures { result ≡ (step_of self.now).response.stamp }
     {
         self.response.response().stamp
+    }
+}
+
+/// The request that a step takes.
+#[derive(Drop)]
+pub enum Posed<'b, 'a> {
+    /// As it was recorded.
+    Recorded(&'b Request<'a>),
+    /// With the attributes that births give. Few turns have any, so it lies in memory of its own.
+    Completed(Box<Request<'a>>),
+}
+
+impl<'b, 'a> Posed<'b, 'a> {
+    ghost use Rattle.std.specs.Prelude.{◌≡◌, IfOk};
+    ghost use Rattle.kmipa_msgs.specs.Messages.{request_of};
+    ghost use Rattle.kmipa_check.specs.Steps.{posed_of};
+
+    /// A request that births complete.
+    pub(crate) fn completed(
+        alloc: Global,
+        request: Request<'a>,
+    ) -> Result<Posed<'b, 'a>, AllocError>
+        ensures { IfOk result (λ posed. posed_of posed ≡ request_of request.entry) }
+    {
+        Ok(Posed::Completed(Box::new(alloc, request)?))
+    }
+
+    /// The request itself.
+    pub fn request(&self) -> &Request<'a>
+        ensures { request_of result.now ≡ posed_of self.now }
+    {
+        match self {
+            Posed::Recorded(request) => request,
+            Posed::Completed(request) => request,
+        }
     }
 }
 

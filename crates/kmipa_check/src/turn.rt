@@ -11,7 +11,7 @@ ghost use Rattle.kmipa_check.specs.Ordering.{AnswerRefused};
 ghost use Rattle.kmipa_check.specs.Orders.{Refuses};
 ghost use Rattle.kmipa_check.specs.Steps.{IsAnswered, IsStep, given_of, step_of};
 
-use crate::births::no_births;
+use crate::births::born_in;
 use crate::call::Call;
 use crate::fault::{StepFault, WitnessKind};
 use crate::filling::{are_wanted, filled, none_missing};
@@ -49,15 +49,21 @@ pub fn step_of_turn<'b, 'a>(
         Err(fault) => return Err(fault),
     };
     // Births are tested by what was recorded, and told of after fills.
-    let births = no_births(alloc, &call.request, answered.response(), &turn.births);
+    let born = born_in(
+        alloc,
+        grants,
+        &call.request,
+        answered.response(),
+        &turn.births,
+    );
     let full = match filled_in(alloc, &call.request, answered, &turn.fills) {
         Ok(given) => given,
         Err(fault) => return Err(fault),
     };
-    match births {
-        Ok(()) => {}
+    let request = match born {
+        Ok(posed) => posed,
         Err(fault) => return Err(fault),
-    }
+    };
     if !turn.asides.is_empty() {
         return Err(StepFault::Unfit(WitnessKind::AsideForm));
     }
@@ -65,7 +71,7 @@ pub fn step_of_turn<'b, 'a>(
         number: call.number,
         begin: call.begin,
         end: call.end,
-        request: &call.request,
+        request,
         response: full.at_moment(alloc, moment)?,
         stamp,
         places,

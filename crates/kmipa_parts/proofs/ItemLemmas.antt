@@ -474,7 +474,7 @@ module _ (rules : RulesOf) (t : ℤ) (V : List Thing) (before : Option (List ℕ
   held_success (idles number) (Some payload) h = absurd h
   held_success (does_other number) payload h = absurd h
 
-  held_outcome : (status : Status) (asked : AskedOf) (reason : Option ℕ) (payload : Option PayloadOf) → Outcome status rules V before t asked reason payload V' after → after ≡ held_after before asked status payload
+  pub held_outcome : (status : Status) (asked : AskedOf) (reason : Option ℕ) (payload : Option PayloadOf) → Outcome status rules V before t asked reason payload V' after → after ≡ held_after before asked status payload
   held_outcome Success asked reason payload o = held_success asked payload o
   held_outcome Undone asked reason payload o = held_success asked payload o
   held_outcome Failed asked reason payload o = o.placeholder

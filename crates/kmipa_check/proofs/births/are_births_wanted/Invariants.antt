@@ -1,7 +1,7 @@
 use Rattle.std.proofs.Common.{◌-◌, length, map}
 use Rattle.kmipa_msgs.specs.Messages.{request_of, response_of}
 use Rattle.kmipa_record.specs.Witnesses.{birth_of}
-use Rattle.kmipa_check.specs.Births.{AreBirthsBelow}
+use Rattle.kmipa_check.specs.Bearing.{AreBirthsBelow}
 use Rattle.kmipa_check.proofs.births.are_births_wanted.Given as goal
 
 abbrev pub invariant-births : goal.invariant-births

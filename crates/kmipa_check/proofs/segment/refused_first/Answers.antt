@@ -1,8 +1,25 @@
-use Rattle.std.proofs.Common.{◌<◌, ℕ, ◌<ℤ◌, ◌∙◌, map, sym, subst, arith, rules}
-use Rattle.kmipa_check.specs.Steps.{step_of}
+use Rattle.std.proofs.Common.{◌≡◌, ◌<◌, ℕ, ℤ, ◌<ℤ◌, ◌≤ℤ◌, ◌∙◌, map, sym, ap, subst, arith, rules}
+use Rattle.std.specs.Int.Signed.{clash_ℤ}
+use Rattle.kmipa_check.specs.Steps.{StepOf, step_of}
 use Rattle.kmipa_check.proofs.PlaceLemmas.{get_at}
-use Rattle.kmipa_check.proofs.TurnLemmas.{none_late}
+use Rattle.kmipa_check.proofs.TurnLemmas.{late_here, none_late}
 use Rattle.kmipa_check.proofs.segment.refused_first.Goals as goal
+
+pub returns-then-moment : goal.returns-then-moment
+returns-then-moment c = λ other begins.
+    let there = get_at step_of c.args.steps.now 0 c.in-Some-first.first.now (sym c.in-Some-first.ensures.value) in
+    let at = begins.there in
+    let same : step_of c.in-Some-first.first.now ≡ other = cc in
+    let its = begins.is in
+    let told = c.in-Some.is in
+    let moment : begins.moment ≡ c.in-Some.moment = cc in
+    let above : c.in-Some.moment ≤ℤ c.moment.result = search rules in
+    let below : other.response.stamp <ℤ c.in-Some.moment = subst (λ (z : ℤ). other.response.stamp <ℤ z) moment begins.below in
+    absurd (clash_ℤ below (subst (λ (z : ℤ). c.in-Some.moment ≤ℤ z) (c.moment.ensures ∙ ap (λ (s : StepOf). s.response.stamp) same) above))
+
+pub returns-then-is_at : goal.returns-then-is_at
+returns-then-is_at c = λ other begins.
+    late_here (map step_of c.args.steps.now) c.first_late.result 0 other c.first_late.ensures begins.there (sym c.is_at.ensures ∙ c.if-is_at.true)
 
 pub returns : goal.returns
 returns c =

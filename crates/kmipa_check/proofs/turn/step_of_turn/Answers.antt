@@ -7,14 +7,15 @@ use Rattle.kmipa_record.specs.Entries.{items_of}
 use Rattle.kmipa_record.specs.Witnesses.{birth_of, fill_of, turn_of}
 use Rattle.kmipa_record.specs.declared.birth.Birth.{Birth}
 use Rattle.kmipa_record.specs.declared.fill.Fill.{Fill}
-use Rattle.kmipa_check.specs.Births.{BirthsRefused}
+use Rattle.kmipa_check.specs.Bearing.{BirthsRefused}
+use Rattle.kmipa_check.specs.Births.{IsBorn}
 use Rattle.kmipa_check.specs.Calls.{call_of}
 use Rattle.kmipa_check.specs.Fills.{IsFilled}
 use Rattle.kmipa_check.specs.Filling.{FillsRefused}
 use Rattle.kmipa_check.specs.Grants.{grants_of}
 use Rattle.kmipa_check.specs.Moments.{IsMoment, IsUntimely, at_moment}
 use Rattle.kmipa_check.specs.Places.{AreTaken, PlacesRefused}
-use Rattle.kmipa_check.specs.Steps.{StepOf, given_of}
+use Rattle.kmipa_check.specs.Steps.{StepOf, given_of, posed_of}
 use Rattle.kmipa_check.proofs.OrderLemmas.{empty_list}
 use Rattle.kmipa_check.proofs.GivenLemmas.{answer_refuses, moment_refuses, places_refuse, fills_refuse, births_refuse, asides_refuse}
 use Rattle.kmipa_check.proofs.turn.step_of_turn.Goals as goal
@@ -56,8 +57,8 @@ returns-in-Err-filled_in c = λ named.
     fills_refuse g (call_of c.args.call.now) (turn_of c.args.turn.now) (given_of c.in-Ok.given) c.in-Ok.ensures c.in-Some.moment (subst M stamp c.in-Some.ensures) places
     (subst R c.response-2.ensures (subst N c.deref.ensures.value c.in-Ok-places_given.ensures)) c.in-Err-filled_in.fault (subst F c.deref-3.ensures.value c.in-Err-filled_in.ensures)
 
-pub returns-in-Err-births : goal.returns-in-Err-births
-returns-in-Err-births c = λ named.
+pub returns-in-Err-born : goal.returns-in-Err-born
+returns-in-Err-born c = λ named.
     let g = grants_of c.args.grants.now in
     let request = request_of c.args.call.now.request in
     let fits : SFits w64 c.response.result.now.stamp = search rules in
@@ -67,11 +68,11 @@ returns-in-Err-births c = λ named.
     let R : ResponseOf → Type 0 = λ r. AreTaken request r c.args.turn.now.places.items places in
     let N : List ℤ → Type 0 = λ ns. AreTaken request (response_of c.response-2.result.now) ns places in
     let F : List Fill → Type 0 = λ fs. IsFilled request (given_of c.in-Ok.given) (map fill_of fs) (given_of c.in-Ok-filled_in.given) in
-    let B : ResponseOf → Type 0 = λ r. BirthsRefused request r (map birth_of c.args.turn.now.births.items) c.in-Err-births.fault in
-    let L : List Birth → Type 0 = λ bs. BirthsRefused request (response_of c.response-3.result.now) (map birth_of bs) c.in-Err-births.fault in
+    let B : ResponseOf → Type 0 = λ r. BirthsRefused g request r (map birth_of c.args.turn.now.births.items) c.in-Err-born.fault in
+    let L : List Birth → Type 0 = λ bs. BirthsRefused g request (response_of c.response-3.result.now) (map birth_of bs) c.in-Err-born.fault in
     births_refuse g (call_of c.args.call.now) (turn_of c.args.turn.now) (given_of c.in-Ok.given) c.in-Ok.ensures c.in-Some.moment (subst M stamp c.in-Some.ensures) places
     (subst R c.response-2.ensures (subst N c.deref.ensures.value c.in-Ok-places_given.ensures)) (given_of c.in-Ok-filled_in.given) (subst F c.deref-3.ensures.value c.in-Ok-filled_in.ensures)
-    c.in-Err-births.fault (subst B c.response-3.ensures (subst L c.deref-2.ensures.value c.in-Err-births.ensures))
+    c.in-Err-born.fault (subst B c.response-3.ensures (subst L c.deref-2.ensures.value c.in-Err-born.ensures))
 
 pub returns-then-not-is_empty : goal.returns-then-not-is_empty
 returns-then-not-is_empty c = λ named.
@@ -84,11 +85,12 @@ returns-then-not-is_empty c = λ named.
     let R : ResponseOf → Type 0 = λ r. AreTaken request r c.args.turn.now.places.items places in
     let N : List ℤ → Type 0 = λ ns. AreTaken request (response_of c.response-2.result.now) ns places in
     let F : List Fill → Type 0 = λ fs. IsFilled request (given_of c.in-Ok.given) (map fill_of fs) (given_of c.in-Ok-filled_in.given) in
-    let L : List Birth → Type 0 = λ bs. map birth_of bs ≡ [] in
+    let B : ResponseOf → Type 0 = λ r. IsBorn g request r (map birth_of c.args.turn.now.births.items) (posed_of c.in-Ok-born.posed) in
+    let L : List Birth → Type 0 = λ bs. IsBorn g request (response_of c.response-3.result.now) (map birth_of bs) (posed_of c.in-Ok-born.posed) in
     let some : c.args.turn.now.asides.items ≢ [] = search rules in
     asides_refuse g (call_of c.args.call.now) (turn_of c.args.turn.now) (given_of c.in-Ok.given) c.in-Ok.ensures c.in-Some.moment (subst M stamp c.in-Some.ensures) places
     (subst R c.response-2.ensures (subst N c.deref.ensures.value c.in-Ok-places_given.ensures)) (given_of c.in-Ok-filled_in.given) (subst F c.deref-3.ensures.value c.in-Ok-filled_in.ensures)
-    (subst L c.deref-2.ensures.value c.in-Ok-births.ensures) some
+    (posed_of c.in-Ok-born.posed) (subst B c.response-3.ensures (subst L c.deref-2.ensures.value c.in-Ok-born.ensures)) some
 
 pub returns : goal.returns
 returns c = λ named.
@@ -105,7 +107,9 @@ returns c = λ named.
     let taken = subst R c.response-2.ensures (subst N c.deref.ensures.value c.in-Ok-places_given.ensures) in
     let F : List Fill → Type 0 = λ fs. IsFilled request (given_of c.in-Ok.given) (map fill_of fs) (given_of c.in-Ok-filled_in.given) in
     let filled = subst F c.deref-3.ensures.value c.in-Ok-filled_in.ensures in
-    let L : List Birth → Type 0 = λ bs. map birth_of bs ≡ [] in
+    let asked = posed_of c.in-Ok-born.posed in
+    let B : ResponseOf → Type 0 = λ r. IsBorn g request r (map birth_of c.args.turn.now.births.items) asked in
+    let L : List Birth → Type 0 = λ bs. IsBorn g request (response_of c.response-3.result.now) (map birth_of bs) asked in
     let len : vec_len c.args.turn.now.asides ≡ length c.args.turn.now.asides.items = search rules in
     let none = empty_list c.args.turn.now.asides.items (vec_len c.args.turn.now.asides) c.is_empty.result c.is_empty.ensures c.if-not-is_empty.false len in
     let timed : given_of c.in_ok-at_moment.field-0 ≡ at_moment (given_of c.in-Ok-filled_in.given) c.in-Some.moment = c.in_ok-at_moment.ensures ∙ ap (λ (m : ℤ). at_moment (given_of c.in-Ok-filled_in.given) m) (to_z-of_z w64 c.in-Some.moment moment) in
@@ -113,7 +117,7 @@ returns c = λ named.
       number = n;
       begin = c.args.call.now.begin;
       end = c.args.call.now.end;
-      request = request;
+      request = asked;
       response = r;
       stamp = s;
       places = places;
@@ -129,7 +133,8 @@ returns c = λ named.
       taken = taken.1;
       full = given_of c.in-Ok-filled_in.given;
       filled = filled;
-      no_birth = subst L c.deref-2.ensures.value c.in-Ok-births.ensures;
+      asked = asked;
+      born = subst B c.response-3.ensures (subst L c.deref-2.ensures.value c.in-Ok-born.ensures);
       no_aside = none;
       is = ap (λ (n : ℤ). S n (given_of c.in_ok-at_moment.field-0) (to_z w64 (of_z w64 c.response.result.now.stamp))) (to_z-of_z w32 c.args.call.now.number number)
           ∙ ap (λ (r : ResponseOf). S c.args.call.now.number r (to_z w64 (of_z w64 c.response.result.now.stamp))) timed
