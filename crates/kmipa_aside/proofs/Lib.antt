@@ -1,0 +1,7 @@
+mod NearLemmas
+mod BodyLemmas
+mod ScanLemmas
+mod SettingLemmas
+mod LawLemmas
+mod TakenLemmas
+mod EverLemmas

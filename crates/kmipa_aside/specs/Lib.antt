@@ -1,0 +1,10 @@
+pub mod Standing
+pub mod Worlds
+pub mod Passed
+pub mod Aims
+pub mod Cases
+pub mod Does
+pub mod Explains
+pub mod Becoming
+pub mod Taking
+pub mod Identifiers

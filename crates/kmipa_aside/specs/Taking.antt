@@ -1,0 +1,45 @@
+-- What taking a place comes to.
+use Rattle.std.specs.Prelude.{◌≡◌, ℕ, ℤ, List, Option, Some, None, Result, Ok, Err, find}
+use Rattle.kmipa_store.specs.Ledger.{LedgerState}
+use Rattle.kmipa_msgs.specs.Messages.{RulesOf, AskOf, AnswerOf}
+use Rattle.kmipa_ops.specs.Blame.{frame_speaks}
+use Rattle.kmipa_ops.specs.Whys.{whys}
+use Rattle.kmipa_ops.specs.declared.why.Why.{Why}
+use Rattle.kmipa_ops.specs.declared.why.Refusal.{Refusal}
+use Rattle.kmipa_ops.specs.declared.why.Refusal.TheVariants.{Impossible, Memory}
+use Rattle.kmipa_ops.specs.declared.why.Why.TheVariants.{OperationDiffers}
+use Rattle.kmipa_passed.specs.Leaving.{AsideOf as LeftOf, HeldOf, held_of}
+use Rattle.kmipa_passed.specs.declared.leaving.Held.{Held}
+use Rattle.kmipa_aside.specs.Passed.{PassedOf, DoesPassed, DoesUnread}
+use Rattle.kmipa_aside.specs.Becoming.{stand_in}
+use Rattle.kmipa_aside.specs.Cases.{case}
+use Rattle.kmipa_aside.specs.Does.{DoesExcused, IsExcused}
+use Rattle.kmipa_aside.specs.Explains.{Took, Refutes}
+use Rattle.kmipa_aside.specs.declared.case.Case.TheVariants.{AsEver}
+
+-- it tells no bytes
+abbrev pub NoBytes : List ℕ → Type 0
+NoBytes bytes = ⊥
+
+-- a place that isn't judged: from a ledger `s` and a placeholder to `u` and another. One reason alone speaks against it
+abbrev pub TakenPassed : LedgerState → HeldOf → ℤ → PassedOf → Result Held Refusal → LedgerState → Type 0
+TakenPassed s before t p (Ok after) u = Took (DoesPassed t p) NoBytes s before u (held_of after)
+TakenPassed s before t p (Err (Impossible why)) u = (why ≡ OperationDiffers) × Refutes (DoesPassed t p) s.now before × (u ≡ s)
+TakenPassed s before t p (Err Memory) u = u.marks ≡ s.marks
+
+-- a call that can't be read
+abbrev pub TakenUnread : {E : Type 0} → LedgerState → ℤ → LeftOf → Result (Unit {0}) E → LedgerState → Type 0
+TakenUnread s t left (Ok done) u = (before : HeldOf) → Took (DoesUnread t left) NoBytes s before u before
+TakenUnread s t left (Err e) u = u.marks ≡ s.marks
+
+-- the lowest reason against an answer that names another operation, or another item
+abbrev pub frame_lowest : AskOf → AnswerOf → Option Why
+frame_lowest ask answer = find (λ (why : Why). frame_speaks ask answer why) whys
+
+-- a judged item: it is judged as ever, and nothing is done here; or it is excused
+abbrev pub TakenExcused : RulesOf → LedgerState → HeldOf → ℤ → AskOf → AnswerOf → Result (Option Held) Refusal → LedgerState → Type 0
+TakenExcused rules s before t ask answer (Ok None) u = (case rules (stand_in s.now) before ask answer ≡ AsEver) × (u ≡ s)
+TakenExcused rules s before t ask answer (Ok (Some after)) u = Took (DoesExcused rules t ask answer) NoBytes s before u (held_of after)
+TakenExcused rules s before t ask answer (Err (Impossible why)) u =
+    IsExcused (case rules (stand_in s.now) before ask answer) × (frame_lowest ask answer ≡ Some why) × Refutes (DoesExcused rules t ask answer) s.now before × (u ≡ s)
+TakenExcused rules s before t ask answer (Err Memory) u = u.marks ≡ s.marks

@@ -1,0 +1,13 @@
+//! What the definitions say together.
+
+ghost use Rattle.kmipa_aside.specs.Identifiers.{AsEverWithoutAsides, IdentifiersAreSetAside};
+
+/// An identifier that is set aside is so, and what is judged of others stays. Where all are set aside, or judging is over, every identifier is.
+pub fn identifiers_are_set_aside()
+    ensures { IdentifiersAreSetAside }
+{}
+
+/// Where nothing is set aside, and the ID Placeholder is known, each item is judged as ever.
+pub fn as_ever_without_asides()
+    ensures { AsEverWithoutAsides }
+{}
