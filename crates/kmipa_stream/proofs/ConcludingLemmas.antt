@@ -3,7 +3,8 @@ use Rattle.std.proofs.Common.{◌≡◌, ◌≤◌, ◌<◌, ◌⊎◌, inl, inr
 use Rattle.std.specs.Prelude.{MatchResult, not}
 use Rattle.std.proofs.lemmas.List.{length-map, take_all}
 use Rattle.std.proofs.lemmas.Option.{slice_get_within, get_or_from_slice_get}
-use Rattle.kmipa_ttlv.specs.Stream.{capped}
+use Rattle.kmipa_msgs.specs.declared.rules.Unjudged.{Unjudged}
+use Rattle.kmipa_msgs.specs.declared.rules.Unjudged.TheVariants as unjudged
 use Rattle.kmipa_record.specs.Declarations.{DeclarationOf}
 use Rattle.kmipa_record.specs.Marks.{MarkOf, begins, ends, begun, AreRecorded, IsCallNumber}
 use Rattle.kmipa_record.specs.Marks as marked
@@ -31,12 +32,13 @@ use Rattle.kmipa_check.proofs.RecordedLemmas.{recorded_at}
 use Rattle.kmipa_check.proofs.ReplayLemmas.{replayed_accepts}
 use Rattle.kmipa_check.proofs.WholeOrderLemmas.{number_of, order_takes}
 use Rattle.kmipa_stream.specs.Ahead.{WasRead, IsFound}
-use Rattle.kmipa_stream.specs.Counting.{items_in}
-use Rattle.kmipa_stream.specs.Replaying.{FindsSo, IsAtEnd, meaning_in}
+use Rattle.kmipa_stream.specs.Counting.{AreCounted, TalliesSo}
+use Rattle.kmipa_stream.specs.Replaying.{FindsSo, IsAtEnd, counts_under, meaning_in, tally_under}
 use Rattle.kmipa_stream.specs.Seeing.{EndsSo, AreSeen}
 use Rattle.kmipa_stream.specs.Standing.{WereRead, Stands, AreAllReleased, IsDone, IsDoneBy, IsUnnamed, NoneUnnamed, IsFirstLeftOut, Judges, TellsLeftOut}
 use Rattle.kmipa_stream.specs.Waiting.{AreNamedAt}
 use Rattle.kmipa_stream.specs.declared.auditor.Auditor.{Auditor}
+use Rattle.kmipa_stream.specs.declared.counts.Counts.{Counts}
 use Rattle.kmipa_stream.specs.declared.lowest.Found.{Found}
 use Rattle.kmipa_stream.specs.declared.replaying.Finding.{Finding}
 use Rattle.kmipa_stream.specs.declared.replaying.Finding.TheVariants.{Possible, No, Faulty}
@@ -44,6 +46,7 @@ use Rattle.kmipa_stream.specs.declared.replaying.Replay.{Replay}
 use Rattle.kmipa_stream.specs.declared.seen.Seen.{Seen}
 use Rattle.kmipa_stream.specs.declared.seen.SeenCall.{SeenCall}
 use Rattle.kmipa_stream.specs.declared.stamped.Stamped.{Stamped}
+use Rattle.kmipa_stream.specs.declared.tally.Tally.{Tally}
 use Rattle.kmipa_stream.proofs.AheadLemmas.{ahead_itself}
 use Rattle.kmipa_stream.proofs.OrderLemmas.{ended_so, end_noted}
 use Rattle.kmipa_stream.proofs.WaitingLemmas.{is_it_named}
@@ -181,13 +184,30 @@ number_counted marks n begin asked r h =
     let number : IsCallNumber n = subst Q (get_or_from_slice_get marks begin mark mark h.there) (r.numbered begin mark (slice_get_within marks begin mark h.there)) in
     number.least
 
+-- what is counted of a whole order
+module _ (marks : List MarkOf) (declared : DeclarationOf) (turns : List TurnOf) (calls : List CallOf) (are : AreCalls marks calls) (steps : List StepOf) (order : IsOrder (grants_declared declared) calls turns steps)
+  where
+    tally_told : (u : Unjudged) (tally : Option Tally) → u ≡ declared.settings.unjudged → tally ≡ tally_under u steps → TalliesSo marks declared turns tally
+    tally_told unjudged.Refused None same is = sym same
+    tally_told unjudged.Refused (Some t) same is = absurd cc
+    tally_told unjudged.SetAside None same is = absurd cc
+    tally_told unjudged.SetAside (Some t) same is = ((λ ends. let clash = same ∙ ends in absurd cc), record { calls = calls; are = are; steps = steps; order = order; tallied = cc })
+    tally_told unjudged.Unknown None same is = absurd cc
+    tally_told unjudged.Unknown (Some t) same is = ((λ ends. let clash = same ∙ ends in absurd cc), record { calls = calls; are = are; steps = steps; order = order; tallied = cc })
+
+    pub counts_told : (counts : Counts) → counts ≡ counts_under declared.settings.unjudged steps → AreCounted marks declared turns counts.items × TalliesSo marks declared turns counts.tally
+    counts_told counts is = (
+      record { calls = calls; are = are; steps = steps; order = order; counted = ap (λ (c : Counts). c.items) is },
+      tally_told declared.settings.unjudged counts.tally refl (ap (λ (c : Counts). c.tally) is),
+    )
+
 module _ (marks : List MarkOf) (turns : List Turn) (declared : DeclarationOf) (a : Auditor) (r : AreRecorded marks) (s : Stands true marks turns declared a) (all : AreAllReleased a.seen.calls.items)
     (none : a.lowest ≡ None) where
   calls_there : (calls : List CallOf) × AreCalls marks calls
   calls_there = all_inside marks r a.seen s.seen all a.lowest s.read none
 
-  finds : (f : Finding) → a.replay.finding ≡ f → FindsSo true marks turns declared a.replay.formed a.replay.last a.replay.items (meaning_in a.replay.ledger) f
-  finds f is = let P : Finding → Type 0 = λ x. FindsSo true marks turns declared a.replay.formed a.replay.last a.replay.items (meaning_in a.replay.ledger) x in subst P is s.replay.finding
+  finds : (f : Finding) → a.replay.finding ≡ f → FindsSo true marks turns declared a.replay.formed a.replay.last a.replay.counts (meaning_in a.replay.ledger) f
+  finds f is = let P : Finding → Type 0 = λ x. FindsSo true marks turns declared a.replay.formed a.replay.last a.replay.counts (meaning_in a.replay.ledger) x in subst P is s.replay.finding
 
   -- a faulty witness
   pub faulty_told : (f : WitnessFault) → a.replay.finding ≡ Faulty f → Judges marks declared (map turn_of turns) (Err (check_fault.Witness f))
@@ -238,16 +258,16 @@ module _ (marks : List MarkOf) (turns : List Turn) (declared : DeclarationOf) (a
           whole_order (grants_declared declared) calls_there.0 (map turn_of turns) formed_all
           (none_left_out marks r a.seen s.seen calls_there.0 calls_there.1 (grants_declared declared) turns formed_all a.replay.named s.replay.named whole)
 
-      pub no_told : (refused : Refused) (stamp : ℤ) (items : ℕ) → a.replay.finding ≡ No refused stamp
-          → Judges marks declared (map turn_of turns) (Ok (record { verdict = verdict.No refused; stamp = Some stamp; items = items }))
-      no_told refused stamp items is =
+      pub no_told : (refused : Refused) (stamp : ℤ) (counts : Counts) → a.replay.finding ≡ No refused stamp
+          → Judges marks declared (map turn_of turns) (Ok (record { verdict = verdict.No refused; stamp = Some stamp; counts = counts }))
+      no_told refused stamp counts is =
           let f = finds (No refused stamp) is in (
             (calls_there.0, calls_there.1, (order_there.0, order_there.1, f.0 marks calls_there.0 order_there.0 (ahead_itself marks r) calls_there.1 order_there.1)),
             (stamp, refl, f.1 marks (ahead_itself marks r)),
             tt,
           )
 
-      pub yes_told : a.replay.finding ≡ Possible → Judges marks declared (map turn_of turns) (Ok (record { verdict = verdict.Yes; stamp = None; items = a.replay.items }))
+      pub yes_told : a.replay.finding ≡ Possible → Judges marks declared (map turn_of turns) (Ok (record { verdict = verdict.Yes; stamp = None; counts = a.replay.counts }))
       yes_told is =
           let f = finds Possible is in
           let g = f.1 marks calls_there.0 order_there.0 (ahead_itself marks r) calls_there.1 order_there.1 in
@@ -257,7 +277,7 @@ module _ (marks : List MarkOf) (turns : List Turn) (declared : DeclarationOf) (a
             replayed_accepts marks declared (map turn_of turns) calls_there.0 order_there.0 (meaning_in a.replay.ledger) calls_there.1 order_there.1
                 (order_takes (grants_declared declared) calls_there.0 (map turn_of turns) order_there.0 order_there.1) (subst P same g.replayed),
             tt,
-            record { calls = calls_there.0; are = calls_there.1; steps = order_there.0; order = order_there.1; counted = g.counted ∙ ap (λ (steps : List StepOf). capped (items_in steps)) all },
+            counts_told marks declared (map turn_of turns) calls_there.0 calls_there.1 order_there.0 order_there.1 a.replay.counts (g.counted ∙ ap (counts_under declared.settings.unjudged) all),
           )
 
 -- a message that is outside

@@ -69,16 +69,16 @@ is_used d id any new = new.0 any.0 any.1 any.2 (subst (λ (x : EntryOf). x.id �
 
 -- it takes each record that a declaration may have by which calls are judged
 pub opens_all : TakesAll Judged IsOpened
-opens_all h (row r) m s a t = tt
-opens_all h (allow l) m s a t = tt
-opens_all h (own o) m s a t = t
-opens_all h (entry e) m s a t = tt
-opens_all h (aside id) m s a t = absurd (a s.0)
+opens_all h (row r) m s a = tt
+opens_all h (allow l) m s a = tt
+opens_all h (own o) m s a = tt
+opens_all h (entry e) m s a = tt
+opens_all h (aside id) m s a = absurd a
 
 -- one entry more
 pub opens_entry : (old new : Opening) (d : DeclarationOf) (e : EntryOf) → Opens old d → IsDeclarable e → place_of e.id (cards_of (state_of_journal old.ledger).now.objects) ≡ None → new.rows.items ≡ old.rows.items
-    → new.allow_lines.items ≡ old.allow_lines.items → Declares (state_of_journal old.ledger) e (Ok tt) (state_of_journal new.ledger) → MayFollow d (entry e) × Opens new (with_record d (entry e))
-opens_entry old new d e o may free rows lines declares =
+    → new.allow_lines.items ≡ old.allow_lines.items → new.own_attributes.items ≡ old.own_attributes.items → Declares (state_of_journal old.ledger) e (Ok tt) (state_of_journal new.ledger) → MayFollow d (entry e) × Opens new (with_record d (entry e))
+opens_entry old new d e o may free rows lines attributes declares =
     let s = state_of_journal old.ledger in
     let P : LedgerState → Type 0 = λ t. Opened (d.entries ++ e ∷ []) t.now in (
       (unused_before d.entries s.now o.opened e.id free, no_asides d.asides e.id o.asides),
@@ -86,7 +86,7 @@ opens_entry old new d e o may free rows lines declares =
         opened = subst P (sym declares) (opened_more d.entries e s.now o.opened may free);
         rows = ap (map row_of) rows ∙ o.rows;
         lines = lines ∙ o.lines;
-        own = o.own;
+        own = attributes ∙ o.own;
         asides = o.asides;
       },
     )

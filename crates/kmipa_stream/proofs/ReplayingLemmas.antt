@@ -1,9 +1,8 @@
 -- A turn more of a replay.
-use Rattle.std.proofs.Common.{◌≡◌, ◌<◌, ◌≤◌, ◌⊎◌, inl, inr, ℕ, ◌+◌, ℤ, Bool, List, map, length, Contains, Option, Some, None, slice_get, Result, Ok, refl, sym, ap, ◌∙◌, subst, arith, add-one}
-use Rattle.kmipa_ttlv.specs.Stream.{capped}
+use Rattle.std.proofs.Common.{◌≡◌, ◌<◌, ◌≤◌, ◌⊎◌, inl, inr, ℕ, ◌+◌, ℤ, Bool, List, [], ◌∷◌, ◌++◌, map, length, Contains, Option, Some, None, slice_get, Result, Ok, refl, sym, ap, ◌∙◌, subst, arith, add-one}
 use Rattle.kmipa_msgs.specs.Messages.{RulesOf}
+use Rattle.kmipa_msgs.specs.declared.rules.Unjudged.{Unjudged}
 use Rattle.kmipa_store.specs.Ledger.{Meaning}
-use Rattle.kmipa_batch.specs.Calls.{pairs_of}
 use Rattle.kmipa_record.specs.Declarations.{DeclarationOf}
 use Rattle.kmipa_record.specs.Marks.{MarkOf}
 use Rattle.kmipa_record.specs.Witnesses.{TurnOf, turn_of}
@@ -25,7 +24,8 @@ use Rattle.kmipa_check.specs.declared.fault.WitnessKind.TheVariants.{Twice}
 use Rattle.kmipa_check.specs.declared.verdict.Refused.{Refused}
 use Rattle.kmipa_check.proofs.PlaceLemmas.{below_suc, contains_at, get_at}
 use Rattle.kmipa_stream.specs.Ahead.{IsAhead}
-use Rattle.kmipa_stream.specs.Replaying.{FormAhead, GoesOnAhead, RefusesAhead, AnswersAhead, FaultyAhead, FindsSo, FormsAhead, RefusesTurnAhead, IsRecordedAhead}
+use Rattle.kmipa_stream.specs.Replaying.{counts_under, FormAhead, GoesOnAhead, RefusesAhead, AnswersAhead, FaultyAhead, FindsSo, FormsAhead, RefusesTurnAhead, IsRecordedAhead}
+use Rattle.kmipa_stream.specs.declared.counts.Counts.{Counts}
 use Rattle.kmipa_stream.specs.declared.replaying.Finding.{Finding}
 use Rattle.kmipa_stream.specs.declared.replaying.Replay.{Replay}
 use Rattle.kmipa_stream.specs.declared.replaying.Finding.TheVariants.{Possible, No, Faulty}
@@ -95,9 +95,9 @@ module _ (closed : Bool) (marks : List MarkOf) (turns : List Turn) (declared : D
         by all calls a are place (inl h) = before all calls a are place h
         by all calls a are place (inr e) = let P : ℕ → Type 0 = λ p. IsFormed (grants_declared declared) calls (map turn_of turns) p s in (s, subst P (sym e) (forms all calls a are))
 
-    module _ (rules : RulesOf) (last : Option ℤ) (items : ℕ) (m n : Meaning) (waiting : Option ℕ) (late back : Bool) (result : Result (Option Refused) CheckFault)
+    module _ (rules : RulesOf) (last : Option ℤ) (counts : Counts) (m n : Meaning) (waiting : Option ℕ) (late back : Bool) (result : Result (Option Refused) CheckFault)
         (within : s.begin ≤ length marks) (rules_is : rules ≡ rules_declared declared) (first : IsFirstWaiting marks turns (k + 1) waiting) (late_is : late ≡ is_below waiting s.begin)
-        (back_is : back ≡ is_less s.response.stamp last) (goes : GoesOnAhead closed marks turns declared k last items m)
+        (back_is : back ≡ is_less s.response.stamp last) (goes : GoesOnAhead closed marks turns declared k last counts m)
         (taken : (order : List StepOf) → slice_get order k ≡ Some s → Decided late (IsLate order k s) → Decided back (RunsBack order k s) → TurnTaken rules order k m result n) where
       -- what it comes to in each transcript ahead, and in each order
       told_ahead : (all : List MarkOf) (calls : List CallOf) (order : List StepOf) → IsAhead closed marks all → AreCalls all calls → IsOrder (grants_declared declared) calls (map turn_of turns) order
@@ -112,14 +112,15 @@ module _ (closed : Bool) (marks : List MarkOf) (turns : List Turn) (declared : D
           let l = late_decided all a.recorded calls are (grants_declared declared) (map turn_of turns) order o closed marks a k s there within turns refl waiting f in
           (there, taken order there (subst Q (sym late_is) l) (subst R (sym back_is) (back_decided order k s last g.stamped)) declared rules_is g.replayed)
 
-      pub goes_on_more : (more : ℕ) → more ≡ length (pairs_of s.request s.response) → result ≡ Ok None → GoesOnAhead closed marks turns declared (k + 1) (Some s.response.stamp) (capped (items + more)) n
-      goes_on_more more is_more is = λ all calls order a are o.
+      pub goes_on_more : (more : Counts) → ((u : Unjudged) (steps : List StepOf) → counts ≡ counts_under u steps → more ≡ counts_under u (steps ++ s ∷ [])) → result ≡ Ok None
+          → GoesOnAhead closed marks turns declared (k + 1) (Some s.response.stamp) more n
+      goes_on_more more counted is = λ all calls order a are o.
           let t = told_ahead all calls order a are o in
           let P : Result (Option Refused) CheckFault → Type 0 = λ x. TurnTold declared order k x n in
           record {
             replayed = subst P is t.1;
             stamped = (k, s, refl, t.0, refl);
-            counted = counted_more order k s items more t.0 (goes all calls order a are o).counted is_more;
+            counted = counted_more declared.settings.unjudged order k s counts more t.0 (goes all calls order a are o).counted (counted declared.settings.unjudged);
           }
 
       pub refuses_more : (refused : Refused) → result ≡ Ok (Some refused) → RefusesAhead closed marks turns declared refused
@@ -129,11 +130,11 @@ module _ (closed : Bool) (marks : List MarkOf) (turns : List Turn) (declared : D
           subst P is t.1
 
 -- what was found of turns that are no longer taken stays
-pub finds_still : (closed : Bool) (marks : List MarkOf) (turns : List Turn) (declared : DeclarationOf) (k j : ℕ) (last other : Option ℤ) (items : ℕ) (m n : Meaning) (f : Finding) → (f ≡ Possible → ⊥)
-    → FindsSo closed marks turns declared k last items m f → FindsSo closed marks turns declared j other items n f
-finds_still closed marks turns declared k j last other items m n Possible not h = absurd (not refl)
-finds_still closed marks turns declared k j last other items m n (No refused stamp) not h = h
-finds_still closed marks turns declared k j last other items m n (Faulty f) not h = h
+pub finds_still : (closed : Bool) (marks : List MarkOf) (turns : List Turn) (declared : DeclarationOf) (k j : ℕ) (last other : Option ℤ) (counts : Counts) (m n : Meaning) (f : Finding) → (f ≡ Possible → ⊥)
+    → FindsSo closed marks turns declared k last counts m f → FindsSo closed marks turns declared j other counts n f
+finds_still closed marks turns declared k j last other counts m n Possible not h = absurd (not refl)
+finds_still closed marks turns declared k j last other counts m n (No refused stamp) not h = h
+finds_still closed marks turns declared k j last other counts m n (Faulty f) not h = h
 
 -- the turn at a place, as the witness says it
 pub turn_there : (r : Replay) (turns : List Turn) (turn : Turn) → r.turns.now ≡ turns → slice_get r.turns.now r.formed ≡ Some turn → slice_get (map turn_of turns) r.formed ≡ Some (turn_of turn)

@@ -19,6 +19,7 @@ use Rattle.kmipa_stream.specs.Seeing.{AreSeen, KeepReleased, released}
 use Rattle.kmipa_stream.specs.Standing.{WereRead, Stands, Standing, LetsGoAt}
 use Rattle.kmipa_stream.specs.Waiting.{Wait}
 use Rattle.kmipa_stream.specs.declared.auditor.Auditor.{Auditor}
+use Rattle.kmipa_stream.specs.declared.counts.Counts.{Counts}
 use Rattle.kmipa_stream.specs.declared.ends.Ends.{Ends}
 use Rattle.kmipa_stream.specs.declared.lowest.Found.{Found}
 use Rattle.kmipa_stream.specs.declared.replaying.Finding.{Finding}
@@ -39,10 +40,10 @@ module _ (closed closed' : Bool) (marks marks' : List MarkOf) (less : (all : Lis
   read_on lowest begin (inr found) = inr found
 
   module _ (turns : List Turn) (declared : DeclarationOf) where
-    finds_on : (count : ℕ) (last : Option ℤ) (items : ℕ) (m : Meaning) (f : Finding) → FindsSo closed marks turns declared count last items m f → FindsSo closed' marks' turns declared count last items m f
-    finds_on count last items m Possible h = (h.0, λ all calls order a are o. h.1 all calls order (less all a) are o)
-    finds_on count last items m (No refused stamp) h = ((λ all calls order a are o. h.0 all calls order (less all a) are o), (λ all a. h.1 all (less all a)))
-    finds_on count last items m (Faulty f) h = λ all calls a are. h all calls (less all a) are
+    finds_on : (count : ℕ) (last : Option ℤ) (counts : Counts) (m : Meaning) (f : Finding) → FindsSo closed marks turns declared count last counts m f → FindsSo closed' marks' turns declared count last counts m f
+    finds_on count last counts m Possible h = (h.0, λ all calls order a are o. h.1 all calls order (less all a) are o)
+    finds_on count last counts m (No refused stamp) h = ((λ all calls order a are o. h.0 all calls order (less all a) are o), (λ all a. h.1 all (less all a)))
+    finds_on count last counts m (Faulty f) h = λ all calls a are. h all calls (less all a) are
 
     pub replays_on : (r : Replay) → Replays closed marks turns declared r → Replays closed' marks' turns declared r
     replays_on r h = record {
@@ -52,7 +53,7 @@ module _ (closed closed' : Bool) (marks marks' : List MarkOf) (less : (all : Lis
       grants = h.grants;
       within = h.within;
       formed = λ all calls a are. h.formed all calls (less all a) are;
-      finding = finds_on r.formed r.last r.items _ r.finding h.finding;
+      finding = finds_on r.formed r.last r.counts _ r.finding h.finding;
     }
 
 -- one mark more

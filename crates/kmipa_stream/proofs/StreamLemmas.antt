@@ -15,9 +15,10 @@ use Rattle.kmipa_check.specs.Verdicts.{Checks, TellsVerdict}
 use Rattle.kmipa_check.specs.declared.fault.CheckFault.{CheckFault}
 use Rattle.kmipa_check.specs.declared.verdict.Verdict.{Verdict}
 use Rattle.kmipa_check.specs.declared.verdict.Verdict.TheVariants.{Yes, No}
-use Rattle.kmipa_stream.specs.Counting.{HaveItems}
+use Rattle.kmipa_stream.specs.Counting.{HaveItems, HaveTally}
 use Rattle.kmipa_stream.specs.Standing.{DatesSo, CountsSo}
 use Rattle.kmipa_stream.specs.Streams.{TellsDate}
+use Rattle.kmipa_stream.specs.declared.counts.Counts.{Counts}
 use Rattle.kmipa_stream.specs.declared.judged.Judged.{Judged}
 
 -- the file whose bytes came to the end that was seen
@@ -88,18 +89,31 @@ dated_so t d w marks declared turns (No refused) stamp r dates = (
   record { marks = marks; transcript = r.transcript; turns = turns; witness = r.witness; answered = dates.2 },
 )
 
-pub counted_so : (t d w : List ℕ) (marks : List MarkOf) (declared : DeclarationOf) (turns : List TurnOf) (verdict : Verdict) (items : ℕ) → verdict ≡ Yes → AreTheseRecords t d w marks declared turns
-    → CountsSo marks declared turns verdict items → HaveItems t d w items
-counted_so t d w marks declared turns Yes items e r counts = record {
+pub counted_so : (t d w : List ℕ) (marks : List MarkOf) (declared : DeclarationOf) (turns : List TurnOf) (verdict : Verdict) (counts : Counts) → verdict ≡ Yes → AreTheseRecords t d w marks declared turns
+    → CountsSo marks declared turns verdict counts → HaveItems t d w counts.items
+counted_so t d w marks declared turns Yes counts e r so = record {
   marks = marks;
   transcript = r.transcript;
   declared = declared;
   declaration = r.declaration;
   turns = turns;
   witness = r.witness;
-  counted = counts;
+  counted = so.0;
 }
-counted_so t d w marks declared turns (No refused) items e r counts = absurd cc
+counted_so t d w marks declared turns (No refused) counts e r so = absurd cc
+
+pub tallied_so : (t d w : List ℕ) (marks : List MarkOf) (declared : DeclarationOf) (turns : List TurnOf) (verdict : Verdict) (counts : Counts) → verdict ≡ Yes → AreTheseRecords t d w marks declared turns
+    → CountsSo marks declared turns verdict counts → HaveTally t d w counts.tally
+tallied_so t d w marks declared turns Yes counts e r so = record {
+  marks = marks;
+  transcript = r.transcript;
+  declared = declared;
+  declaration = r.declaration;
+  turns = turns;
+  witness = r.witness;
+  tallied = so.1;
+}
+tallied_so t d w marks declared turns (No refused) counts e r so = absurd cc
 
 -- what is answered comes with what the transcript is known by
 pub known_with : (bytes : List ℕ) (marks : List MarkOf) (head : Option Head) (answer : Result Judged CheckFault) → IsKnownBy bytes marks head

@@ -17,11 +17,12 @@ use Rattle.kmipa_check.specs.declared.fault.WitnessKind.TheVariants.{LeftOut}
 use Rattle.kmipa_check.specs.declared.verdict.Verdict.{Verdict}
 use Rattle.kmipa_check.specs.declared.verdict.Verdict.TheVariants.{Yes, No}
 use Rattle.kmipa_stream.specs.Ahead.{WasRead, IsFound}
-use Rattle.kmipa_stream.specs.Counting.{AreCounted}
+use Rattle.kmipa_stream.specs.Counting.{AreCounted, TalliesSo}
 use Rattle.kmipa_stream.specs.Replaying.{Replays, IsAtEnd}
 use Rattle.kmipa_stream.specs.Seeing.{AreSeen}
 use Rattle.kmipa_stream.specs.Waiting.{Wait}
 use Rattle.kmipa_stream.specs.declared.auditor.Auditor.{Auditor}
+use Rattle.kmipa_stream.specs.declared.counts.Counts.{Counts}
 use Rattle.kmipa_stream.specs.declared.judged.Judged.{Judged}
 use Rattle.kmipa_stream.specs.declared.lowest.Found.{Found}
 use Rattle.kmipa_stream.specs.declared.replaying.Replay.{Replay}
@@ -46,15 +47,15 @@ abbrev pub DatesSo : List MarkOf → List TurnOf → Verdict → Option ℤ → 
 DatesSo marks turns Yes stamp = Unit {0}
 DatesSo marks turns (No refused) stamp = (date : ℤ) × (stamp ≡ Some date) × IsAnsweredAt marks turns refused.call date
 
--- the number that is told of a yes is that of the items judged; that of a no is not promised
-abbrev pub CountsSo : List MarkOf → DeclarationOf → List TurnOf → Verdict → ℕ → Type 0
-CountsSo marks declared turns Yes items = AreCounted marks declared turns items
-CountsSo marks declared turns (No refused) items = Unit {0}
+-- the number that is told of a yes is that of the items judged, and it tells what became of them; of a no neither is promised
+abbrev pub CountsSo : List MarkOf → DeclarationOf → List TurnOf → Verdict → Counts → Type 0
+CountsSo marks declared turns Yes counts = AreCounted marks declared turns counts.items × TalliesSo marks declared turns counts.tally
+CountsSo marks declared turns (No refused) counts = Unit {0}
 
 -- what is answered of these records
 abbrev pub Judges : List MarkOf → DeclarationOf → List TurnOf → Result Stamped CheckFault → Type 0
 Judges marks declared turns (Ok stamped) =
-    TellsVerdict marks declared turns stamped.verdict × DatesSo marks turns stamped.verdict stamped.stamp × CountsSo marks declared turns stamped.verdict stamped.items
+    TellsVerdict marks declared turns stamped.verdict × DatesSo marks turns stamped.verdict stamped.stamp × CountsSo marks declared turns stamped.verdict stamped.counts
 Judges marks declared turns (Err fault) = Checks marks declared turns (Err fault)
 
 -- ---- the parts
@@ -116,7 +117,7 @@ TellsLeftOut turns calls check_fault.Memory = Unit {0}
 
 -- the same without the head
 abbrev pub stamped_alone : Result Judged CheckFault → Result Stamped CheckFault
-stamped_alone (Ok judged) = Ok (record { verdict = judged.verdict; stamp = judged.stamp; items = judged.items })
+stamped_alone (Ok judged) = Ok (record { verdict = judged.verdict; stamp = judged.stamp; counts = record { items = judged.items; tally = judged.tally } })
 stamped_alone (Err fault) = Err fault
 
 -- a transcript came, to the end that was seen, and this is answered of it, with what it is known by

@@ -11,7 +11,7 @@ ghost use Rattle.kmipa_record.specs.Witnesses.{IsWitnessUpTo, WitnessFault, turn
 ghost use Rattle.kmipa_record.specs.declared.turn.Turn as turns;
 ghost use Rattle.kmipa_check.specs.Audits.{AreADeclaration, AreAccepted, AuditFails, AuditsAs};
 ghost use Rattle.kmipa_check.specs.declared.verdict.Verdict.TheVariants.{Yes};
-ghost use Rattle.kmipa_stream.specs.Counting.{HaveItems};
+ghost use Rattle.kmipa_stream.specs.Counting.{HaveItems, HaveTally};
 ghost use Rattle.kmipa_stream.specs.Opening.{Opens};
 ghost use Rattle.kmipa_stream.specs.Standing.{IsJudged, Stands, stamped_alone};
 ghost use Rattle.kmipa_stream.specs.Streams.{IsPassed, TellsDate, verdict_alone};
@@ -63,6 +63,10 @@ pub fn audit_stream<R: Read>(
     ensures counted { IfOk result
         (λ judged. judged.verdict ≡ Yes
         → HaveItems (came_of transcript.new) (came_of declaration.new) (came_of witness.new) judged.items) }
+    // And with what became of them, where the declaration sets aside.
+    ensures tallied { IfOk result
+        (λ judged. judged.verdict ≡ Yes
+        → HaveTally (came_of transcript.new) (came_of declaration.new) (came_of witness.new) judged.tally) }
     // Each verdict comes with the head up to which all seals are right of what came, or that bears none.
     ensures known { IfOk result
         (λ judged. (marks : List MarkOf) × IsKnownBy (came_of transcript.new) marks judged.head) }
@@ -211,12 +215,13 @@ fn with_head(stamped: Result<Stamped, CheckFault>, head: Option<Head>) -> Result
             Stamped {
                 verdict,
                 stamp,
-                items,
+                counts,
             },
         ) => Ok(Judged {
             verdict,
             stamp,
-            items,
+            items: counts.items,
+            tally: counts.tally,
             head,
         }),
         Err(fault) => Err(fault),

@@ -240,12 +240,12 @@ impl<'w> Auditor<'w> {
             Finding::No(refused, stamp) => self.unless_left_out(Stamped {
                 verdict: Verdict::No(refused),
                 stamp: Some(stamp),
-                items: self.replay.items(),
+                counts: self.replay.counts(),
             }),
             Finding::Possible => self.unless_left_out(Stamped {
                 verdict: Verdict::Yes,
                 stamp: None,
-                items: self.replay.items(),
+                counts: self.replay.counts(),
             }),
         }
     }

@@ -1,5 +1,6 @@
-//! Verdicts with the date of a refused call, the number of items judged, and the head of the transcript.
+//! Verdicts with the date of a refused call, the number of items judged, what became of them, and the head of the transcript.
 
+use crate::tally::Tally;
 use kmipa_check::Verdict;
 use kmipa_record::Head;
 
@@ -12,6 +13,9 @@ pub struct Judged {
     /// How many items were judged: the places of all turns taken that have a Batch Item in the request and in the response. It stops at the
     /// greatest `u64`. Only the number of a yes is promised.
     pub items: u64,
+    /// What became of these items, where the declaration sets aside; `None` where what isn't judged ends the audit. Only that of a yes is
+    /// promised.
+    pub tally: Option<Tally>,
     /// The head of a transcript that is sealed.
     pub head: Option<Head>,
 }

@@ -3,6 +3,8 @@
 
 mod auditing;
 mod auditor;
+mod counting;
+mod counts;
 mod ends;
 mod judged;
 mod lowest;
@@ -13,6 +15,9 @@ mod replaying;
 mod seen;
 mod stamped;
 mod taking;
+mod tally;
 
 pub use auditing::audit_stream;
+pub use counting::{tally_of_records, tally_of_turns};
 pub use judged::Judged;
+pub use tally::Tally;

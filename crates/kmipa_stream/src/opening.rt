@@ -14,11 +14,14 @@ ghost use Rattle.kmipa_check.specs.Runs.{rows_declared};
 use kmipa_attrs::AttrSet;
 use kmipa_msgs::{Row, Rules};
 use kmipa_object::{AllowLine, Life, Material, Object, Rule};
-use kmipa_record::{DeclarationRecord, Entry, RecordKind, Settings, TakesRecords, is_new_cell};
+use kmipa_record::{
+    DeclarationRecord, Entry, OwnAttribute, RecordKind, Settings, TakesRecords, is_new_attribute,
+    is_new_cell,
+};
 use kmipa_store::{Journal, Ledger, StoreFault};
 use std::alloc::{AllocError, Global};
 
-/// The ledger of a server before any call, and the rows and allow lines of its declaration, as far as this was read.
+/// The ledger of a server before any call, and the rows, allow lines and own lines of its declaration, as far as this was read.
 ///
 /// An entry is let go as its object is added; its identifier and its attributes become the object's.
 #[derive(Drop)]
@@ -27,6 +30,8 @@ pub(crate) struct Opening {
     pub ledger: Journal,
     pub rows: Vec<Row>,
     pub allow_lines: Vec<AllowLine>,
+    /// The attributes that the server itself may give an object at birth.
+    pub own_attributes: Vec<OwnAttribute>,
 }
 
 impl Opening {
@@ -44,6 +49,7 @@ impl Opening {
             ledger: Journal::new(alloc),
             rows: Vec::new(alloc),
             allow_lines: Vec::new(alloc),
+            own_attributes: Vec::new(alloc),
         }
     }
 
@@ -55,6 +61,9 @@ impl Opening {
             (Refuses declared (record_of (DeclarationRecord.Row row))) }
     {
         if self.ledger.len() > 0 || !self.allow_lines.is_empty() {
+            return Err(RecordKind::Entry);
+        }
+        if !self.own_attributes.is_empty() {
             return Err(RecordKind::Entry);
         }
         match self.rows.push(row) {
@@ -70,10 +79,29 @@ impl Opening {
             × Opens self.new (with_record declared (record_of (DeclarationRecord.Allow line))))
             (Refuses declared (record_of (DeclarationRecord.Allow line))) }
     {
-        if self.ledger.len() > 0 || !is_new_cell(&self.allow_lines, &line) {
+        if self.ledger.len() > 0 || !self.own_attributes.is_empty() {
+            return Err(RecordKind::Entry);
+        }
+        if !is_new_cell(&self.allow_lines, &line) {
             return Err(RecordKind::Entry);
         }
         match self.allow_lines.push(line) {
+            Ok(()) => Ok(()),
+            Err(_) => Err(RecordKind::Memory),
+        }
+    }
+
+    fn take_attribute(&mut self, attribute: OwnAttribute) -> Result<(), RecordKind>
+        ensures { (declared : DeclarationOf) → Opens self.old declared
+            → MatchResult result
+            (λ _. MayFollow declared (record_of (DeclarationRecord.Own attribute))
+            × Opens self.new (with_record declared (record_of (DeclarationRecord.Own attribute))))
+            (Refuses declared (record_of (DeclarationRecord.Own attribute))) }
+    {
+        if self.ledger.len() > 0 || !is_new_attribute(&self.own_attributes, attribute) {
+            return Err(RecordKind::Entry);
+        }
+        match self.own_attributes.push(attribute) {
             Ok(()) => Ok(()),
             Err(_) => Err(RecordKind::Memory),
         }
@@ -109,7 +137,8 @@ impl TakesRecords for Opening {
             DeclarationRecord::Row(row) => self.take_row(row),
             DeclarationRecord::Allow(line) => self.take_line(line),
             DeclarationRecord::Entry(entry) => self.take_entry(entry),
-            DeclarationRecord::Own(_) | DeclarationRecord::Aside(_) => Err(RecordKind::Entry),
+            DeclarationRecord::Own(attribute) => self.take_attribute(attribute),
+            DeclarationRecord::Aside(_) => Err(RecordKind::Entry),
         }
     }
 }

@@ -4,16 +4,18 @@ ghost use Rattle.std.specs.Prelude.{◌≡◌};
 ghost use Rattle.kmipa_check.specs.Late.{is_below};
 ghost use Rattle.kmipa_stream.specs.Steps.{is_less};
 
+use crate::counting::{counted_with, none_counted};
+use crate::counts::Counts;
 use crate::ends::Ends;
 use crate::naming::{is_named, is_passed};
 use crate::opening::{Opening, rules_with};
-use crate::taking::{answered_items, take_step};
+use crate::taking::take_step;
 use kmipa_check::{
     Call, CheckFault, FirstPlaces, Grants, Refused, Step, StepFault, WitnessFault, WitnessKind,
     step_of_turn,
 };
 use kmipa_msgs::Rules;
-use kmipa_record::{Settings, Turn};
+use kmipa_record::{OwnAttribute, Settings, Turn};
 use kmipa_store::Journal;
 use std::alloc::{AllocError, Global};
 
@@ -35,14 +37,17 @@ pub(crate) struct Replay<'w> {
     turns: &'w [Turn],
     named: FirstPlaces,
     rules: Rules,
-    grants: Grants,
+    // How far moments may be from Time Stamps, in seconds.
+    tolerance: i32,
+    // What the server itself may give an object at birth.
+    own: Vec<OwnAttribute>,
     ledger: Journal,
     // How many turns made their steps.
     formed: usize,
     // The moment of the last step that was taken.
     last: Option<i64>,
-    // How many items of the steps that were taken have an answer, as far as 64 bits count.
-    items: u64,
+    // What is counted of the steps that were taken.
+    counts: Counts,
     finding: Finding,
 }
 
@@ -56,10 +61,11 @@ impl<'w> Replay<'w> {
     ghost use Rattle.kmipa_check.specs.Calls.{IsRecorded, call_of};
     ghost use Rattle.kmipa_check.specs.Orders.{IsNamed};
     ghost use Rattle.kmipa_check.specs.Deciding.{Decided};
+    ghost use Rattle.kmipa_check.specs.Grants.{grants_of};
     ghost use Rattle.kmipa_check.specs.Places.{MayBeTaken};
     ghost use Rattle.kmipa_check.specs.Steps.{step_of};
     ghost use Rattle.kmipa_stream.specs.Opening.{Opens};
-    ghost use Rattle.kmipa_stream.specs.Replaying.{AnswersAhead, FormsAhead, IsAtEnd, IsRecordedAhead, RefusesTurnAhead, Replaying, Replays};
+    ghost use Rattle.kmipa_stream.specs.Replaying.{AnswersAhead, FormsAhead, IsAtEnd, IsRecordedAhead, RefusesTurnAhead, Replaying, Replays, grants_kept};
     ghost use Rattle.kmipa_stream.specs.Waiting.{AreNamedAt, IsPassed, Wait};
 
     /// Before the first turn.
@@ -79,15 +85,24 @@ impl<'w> Replay<'w> {
             turns,
             named: FirstPlaces::of(alloc, turns)?,
             rules: rules_with(alloc, settings, opening.rows, opening.allow_lines)?,
-            grants: Grants {
-                tolerance: settings.tolerance,
-            },
+            tolerance: settings.tolerance,
+            own: opening.own_attributes,
             ledger: opening.ledger,
             formed: 0,
             last: None,
-            items: 0,
+            counts: none_counted(settings.unjudged),
             finding: Finding::Possible,
         })
+    }
+
+    /// What the declaration grants.
+    fn grants(&self) -> Grants<'_>
+        ensures { grants_of result ≡ grants_kept self.now }
+    {
+        Grants {
+            tolerance: self.tolerance,
+            own: self.own.as_slice(),
+        }
     }
 
     /// The next turn that is to make its step; `None` once all have, or one is faulty.
@@ -149,7 +164,7 @@ impl<'w> Replay<'w> {
             → (self.new.turns.now ≡ self.old.turns.now) × (self.new.formed ≡ self.old.formed + 1)) }
         ensures faulty { IfOk result (λ formed. formed ≡ false → IsAtEnd self.new self.new.finding) }
     {
-        match step_of_turn(self.alloc, &self.grants, call, turn) {
+        match step_of_turn(self.alloc, &self.grants(), call, turn) {
             Ok(step) => {
                 self.take_formed(&step, ends)?;
                 Ok(true)
@@ -197,7 +212,7 @@ impl<'w> Replay<'w> {
         ) {
             Ok(None) => {
                 self.last = Some(moment);
-                self.items = self.items.saturating_add(answered_items(step) as u64);
+                self.counts = counted_with(self.counts, step);
                 Ok(())
             }
             Ok(Some(refused)) => {
@@ -208,11 +223,11 @@ impl<'w> Replay<'w> {
         }
     }
 
-    /// How many items of the steps that were taken have an answer.
-    pub fn items(&self) -> u64
-        ensures { result ≡ self.now.items }
+    /// What is counted of the steps that were taken.
+    pub fn counts(&self) -> Counts
+        ensures { result ≡ self.now.counts }
     {
-        self.items
+        self.counts
     }
 
     /// What was found so far.

@@ -1,7 +1,6 @@
 //! A step that is taken.
 
-ghost use Rattle.std.specs.Prelude.{◌≡◌, ◌<◌, ◌+◌, ◌^◌, IfOk, IfSome, List, Some, length, slice_get};
-ghost use Rattle.kmipa_batch.specs.Calls.{pairs_of};
+ghost use Rattle.std.specs.Prelude.{◌≡◌, ◌<◌, ◌+◌, ◌^◌, IfOk, IfSome, List, Some, slice_get};
 ghost use Rattle.kmipa_batch.specs.Readable.{IsReadableCall};
 ghost use Rattle.kmipa_store.specs.Choices.{IsSound};
 ghost use Rattle.kmipa_msgs.specs.Messages.{rules_of};
@@ -48,7 +47,7 @@ pub(crate) fn take_step<L: Ledger>(
         alloc,
         ledger,
         rules,
-        step.request,
+        step.request(),
         step.response.response(),
         step.places(),
     ) {
@@ -56,15 +55,6 @@ pub(crate) fn take_step<L: Ledger>(
         Err(CallRefusal::Impossible(item, why)) => Ok(Some(refused_at(turn, step, item, why))),
         Err(CallRefusal::Memory) => Err(CheckFault::Memory),
     }
-}
-
-/// How many items of a step have an answer: the places that have a Batch Item in the request and in the response.
-pub(crate) fn answered_items(step: &Step) -> usize
-    ensures { result ≡ length (pairs_of (step_of step.now).request (step_of step.now).response) }
-{
-    let asked = step.request.items.len();
-    let answered = step.response.response().items.len();
-    asked.min(answered)
 }
 
 /// A turn, counted from 0, that is impossible at an item.

@@ -6,9 +6,10 @@ use Rattle.kmipa_record.specs.TranscriptReading.{IsKnownBy}
 use Rattle.kmipa_record.specs.Witnesses.{witness_of}
 use Rattle.kmipa_check.specs.declared.fault.CheckFault.{CheckFault}
 use Rattle.kmipa_stream.specs.Standing.{Judges, stamped_alone}
+use Rattle.kmipa_stream.specs.declared.counts.Counts.{Counts}
 use Rattle.kmipa_stream.specs.declared.judged.Judged.{Judged}
 use Rattle.kmipa_stream.proofs.OpeningLemmas.{opens_all}
-use Rattle.kmipa_stream.proofs.StreamLemmas.{a_declaration, these_records, judged_so, unjudged_so, accepted_so, dated_so, counted_so}
+use Rattle.kmipa_stream.proofs.StreamLemmas.{a_declaration, these_records, judged_so, unjudged_so, accepted_so, dated_so, counted_so, tallied_so}
 use Rattle.kmipa_stream.proofs.auditing.audit_stream.Goals as goal
 
 pub read_declaration_into-requires-clause-takes : goal.read_declaration_into-requires-clause-takes
@@ -61,6 +62,10 @@ returns-in-Ok-Ok-clause-dated g c =
     dated_so (came_of ti) (came_of di) (came_of wi) j.marks declared turns c.in-Ok-Ok.judged.verdict c.in-Ok-Ok.judged.stamp
     (these_records ti di wi (came_of ti) (came_of di) (came_of wi) j.marks declared turns (itself ti) (itself di) (itself wi) j.transcript j.ended (taken.found, c.in-Ok.ensures.found.1) c.in-Ok-read_witness.ensures.found) told.1
 
+-- what is counted
+abbrev counts_in : Judged → Counts
+counts_in judged = record { items = judged.items; tally = judged.tally }
+
 pub returns-in-Ok-Ok-clause-counted : goal.returns-in-Ok-Ok-clause-counted
 returns-in-Ok-Ok-clause-counted g c = λ yes.
     let ti = c.judge.new.transcript in
@@ -72,7 +77,21 @@ returns-in-Ok-Ok-clause-counted g c = λ yes.
     let turns = witness_of c.in-Ok-read_witness.witness in
     let P : Result Judged CheckFault → Type 0 = λ x. Judges j.marks declared turns (stamped_alone x) in
     let told = subst P c.in-Ok-Ok.field-0-is j.judged in
-    counted_so (came_of ti) (came_of di) (came_of wi) j.marks declared turns c.in-Ok-Ok.judged.verdict c.in-Ok-Ok.judged.items yes
+    counted_so (came_of ti) (came_of di) (came_of wi) j.marks declared turns c.in-Ok-Ok.judged.verdict (counts_in c.in-Ok-Ok.judged) yes
+    (these_records ti di wi (came_of ti) (came_of di) (came_of wi) j.marks declared turns (itself ti) (itself di) (itself wi) j.transcript j.ended (taken.found, c.in-Ok.ensures.found.1) c.in-Ok-read_witness.ensures.found) told.2
+
+pub returns-in-Ok-Ok-clause-tallied : goal.returns-in-Ok-Ok-clause-tallied
+returns-in-Ok-Ok-clause-tallied g c = λ yes.
+    let ti = c.judge.new.transcript in
+    let di = c.read_declaration_into.new.input in
+    let wi = c.read_witness.new.input in
+    let taken = c.in-Ok.ensures.found.0 in
+    let declared = taken.declared in
+    let j = c.in-Ok-Ok.ensures.judged declared taken.named taken.held in
+    let turns = witness_of c.in-Ok-read_witness.witness in
+    let P : Result Judged CheckFault → Type 0 = λ x. Judges j.marks declared turns (stamped_alone x) in
+    let told = subst P c.in-Ok-Ok.field-0-is j.judged in
+    tallied_so (came_of ti) (came_of di) (came_of wi) j.marks declared turns c.in-Ok-Ok.judged.verdict (counts_in c.in-Ok-Ok.judged) yes
     (these_records ti di wi (came_of ti) (came_of di) (came_of wi) j.marks declared turns (itself ti) (itself di) (itself wi) j.transcript j.ended (taken.found, c.in-Ok.ensures.found.1) c.in-Ok-read_witness.ensures.found) told.2
 
 pub returns-in-Ok-Ok-clause-ended : goal.returns-in-Ok-Ok-clause-ended

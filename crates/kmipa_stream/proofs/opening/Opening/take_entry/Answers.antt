@@ -17,4 +17,4 @@ returns-in-Ok c = λ declared o.
     let m = (state_of_journal c.args.self.now.ledger).now in
     let at = c.find.ensures.place ∙ ap (λ (id : List ℕ). place_of id (cards_of m.objects)) c.as_str.ensures.value in
     let free = not_found (string_bytes c.args.entry.id) c.find.result m at (sym c.is_some.ensures ∙ c.if-is_some.false) in
-    opens_entry c.args.self.now (record { ledger = c.declare.new.ledger; rows = c.args.self.now.rows; allow_lines = c.args.self.now.allow_lines }) declared (entry_of c.args.entry) o c.requires free refl refl c.in-Ok.ensures
+    opens_entry c.args.self.now (record { ledger = c.declare.new.ledger; rows = c.args.self.now.rows; allow_lines = c.args.self.now.allow_lines; own_attributes = c.args.self.now.own_attributes }) declared (entry_of c.args.entry) o c.requires free refl refl refl c.in-Ok.ensures

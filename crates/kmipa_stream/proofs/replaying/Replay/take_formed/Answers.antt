@@ -1,4 +1,4 @@
-use Rattle.std.proofs.Common.{◌≡◌, ℕ, ℤ, ◌+◌, Some, Ok, length, refl, sym, ap, subst, ◌∙◌, arith, rules}
+use Rattle.std.proofs.Common.{◌≡◌, ℤ, ◌+◌, Some, Ok, length, refl, sym, ap, subst, ◌∙◌, arith, rules}
 use mir.Val.{to_z, of_z}
 use mir.Syntax.{w64}
 use Rattle.kmipa_msgs.specs.Messages.{rules_of}
@@ -21,7 +21,7 @@ returns-in_default c = record {
           grants = r.grants;
           within = omega (arith, c.requires.below, ap length r.same);
           formed = form_more closed marks turns declared k (step_of c.args.step.now) forms r.formed;
-          finding = finds_still closed marks turns declared k (k + 1) c.args.self.now.last c.args.self.now.last c.args.self.now.items (meaning_in c.args.self.now.ledger) (meaning_in c.args.self.now.ledger) c.args.self.now.finding c.in_default.not-Possible r.finding;
+          finding = finds_still closed marks turns declared k (k + 1) c.args.self.now.last c.args.self.now.last c.args.self.now.counts (meaning_in c.args.self.now.ledger) (meaning_in c.args.self.now.ledger) c.args.self.now.finding c.in_default.not-Possible r.finding;
         },
         wait.0,
       );
@@ -33,15 +33,14 @@ returns-in-Ok-None-clause-replays c = λ closed marks turns declared r w forms w
     let k = c.args.self.now.formed in
     let s = step_of c.args.step.now in
     let wait = c.first_waiting-waiting.ensures marks turns k r.named (omega arith) w in
-    let P : Finding → Type 0 = λ f. FindsSo closed marks turns declared k c.args.self.now.last c.args.self.now.items (meaning_in c.args.self.now.ledger) f in
-    let Q : Finding → Type 0 = λ f. FindsSo closed marks turns declared (k + 1) (Some (to_z w64 (of_z w64 c.moment-moment.result))) c.saturating_add-self.result (meaning_in c.take_step.new.ledger) f in
+    let P : Finding → Type 0 = λ f. FindsSo closed marks turns declared k c.args.self.now.last c.args.self.now.counts (meaning_in c.args.self.now.ledger) f in
+    let Q : Finding → Type 0 = λ f. FindsSo closed marks turns declared (k + 1) (Some (to_z w64 (of_z w64 c.moment-moment.result))) c.counted_with-self.result (meaning_in c.take_step.new.ledger) f in
     let found = subst P c.in-Possible.is r.finding in
     let moment : to_z w64 (of_z w64 c.moment-moment.result) ≡ s.response.stamp = search rules in
-    let S : ℤ → Type 0 = λ z. GoesOnAhead closed marks turns declared (k + 1) (Some z) c.saturating_add-self.result (meaning_in c.take_step.new.ledger) in
-    let T : ℕ → Type 0 = λ items. GoesOnAhead closed marks turns declared (k + 1) (Some s.response.stamp) items (meaning_in c.take_step.new.ledger) in
+    let S : ℤ → Type 0 = λ z. GoesOnAhead closed marks turns declared (k + 1) (Some z) c.counted_with-self.result (meaning_in c.take_step.new.ledger) in
     let back : c.is_less-back.result ≡ is_less s.response.stamp c.args.self.now.last = search rules in
-    let goes = goes_on_more closed marks turns declared k s forms (rules_of c.args.self.now.rules) c.args.self.now.last c.args.self.now.items (meaning_in c.args.self.now.ledger) (meaning_in c.take_step.new.ledger) c.first_waiting-waiting.result
-    c.is_before-late.result c.is_less-back.result c.take_step.result (omega (arith, within)) r.rules wait.1 c.is_before-late.ensures back found.1 c.take_step.ensures.taken c.answered_items.result c.answered_items.ensures (c.in-Ok-None.is ∙ ap Ok c.in-Ok-None.field-0-is) in (
+    let goes = goes_on_more closed marks turns declared k s forms (rules_of c.args.self.now.rules) c.args.self.now.last c.args.self.now.counts (meaning_in c.args.self.now.ledger) (meaning_in c.take_step.new.ledger) c.first_waiting-waiting.result
+    c.is_before-late.result c.is_less-back.result c.take_step.result (omega (arith, within)) r.rules wait.1 c.is_before-late.ensures back found.1 c.take_step.ensures.taken c.counted_with-self.result c.counted_with-self.ensures (c.in-Ok-None.is ∙ ap Ok c.in-Ok-None.field-0-is) in (
       record {
         same = r.same;
         named = r.named;
@@ -49,7 +48,7 @@ returns-in-Ok-None-clause-replays c = λ closed marks turns declared r w forms w
         grants = r.grants;
         within = omega (arith, c.requires.below, ap length r.same);
         formed = form_more closed marks turns declared k s forms r.formed;
-        finding = subst Q (sym c.in-Possible.is) (c.in-Ok-None.ensures.sound, subst S (sym moment) (subst T (sym c.saturating_add-self.ensures) goes));
+        finding = subst Q (sym c.in-Possible.is) (c.in-Ok-None.ensures.sound, subst S (sym moment) goes);
       },
       wait.0,
     )
@@ -59,11 +58,11 @@ returns-in-Ok-Some-clause-replays c = λ closed marks turns declared r w forms w
     let k = c.args.self.now.formed in
     let s = step_of c.args.step.now in
     let wait = c.first_waiting-waiting.ensures marks turns k r.named (omega arith) w in
-    let P : Finding → Type 0 = λ f. FindsSo closed marks turns declared k c.args.self.now.last c.args.self.now.items (meaning_in c.args.self.now.ledger) f in
+    let P : Finding → Type 0 = λ f. FindsSo closed marks turns declared k c.args.self.now.last c.args.self.now.counts (meaning_in c.args.self.now.ledger) f in
     let found = subst P c.in-Possible.is r.finding in
     let stamp : to_z w64 (of_z w64 c.args.step.now.stamp) ≡ s.stamp = search rules in
     let back : c.is_less-back.result ≡ is_less s.response.stamp c.args.self.now.last = search rules in
-    let refuses = refuses_more closed marks turns declared k s forms (rules_of c.args.self.now.rules) c.args.self.now.last c.args.self.now.items (meaning_in c.args.self.now.ledger) (meaning_in c.take_step.new.ledger) c.first_waiting-waiting.result
+    let refuses = refuses_more closed marks turns declared k s forms (rules_of c.args.self.now.rules) c.args.self.now.last c.args.self.now.counts (meaning_in c.args.self.now.ledger) (meaning_in c.take_step.new.ledger) c.first_waiting-waiting.result
     c.is_before-late.result c.is_less-back.result c.take_step.result (omega (arith, within)) r.rules wait.1 c.is_before-late.ensures back found.1 c.take_step.ensures.taken c.in-Ok-Some.refused
     (c.in-Ok-Some.is ∙ ap Ok c.in-Ok-Some.field-0-is) in
     let number : c.in-Ok-Some.refused.call ≡ c.args.step.now.number = search rules in
