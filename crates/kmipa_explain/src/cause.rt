@@ -87,7 +87,7 @@ fn shape_at(step: &Step, item: usize) -> Shape
         None => None,
     };
     Shape {
-        option: step.request.option,
+        option: step.request().option,
         failed: first_failed(&step.response.response().items),
         asked,
         status,
@@ -123,7 +123,7 @@ fn operations_at(step: &Step, item: usize) -> Operations
     requires { HasPair (step_of step.now) item }
     ensures { AreOperations (step_of step.now) item result }
 {
-    let asked = step.request.items[item - 1].number();
+    let asked = step.request().items[item - 1].number();
     let answered = step.response.response().items[item - 1].operation;
     Operations { asked, answered }
 }

@@ -56,7 +56,7 @@ pub fn count_of(step: &Step) -> usize
 {
     match step.places() {
         Some(places) => places.len(),
-        None => step.request.items.len(),
+        None => step.request().items.len(),
     }
 }
 
@@ -88,7 +88,7 @@ fn add_item(
         (slice_get (pairs_of (step_of step.now).request (step_of step.now).response) place) behind
         ≡ map seen_item items.new.items ++ behind (text_of after)) }
 {
-    let Some(ask) = step.request.items.get(place) else {
+    let Some(ask) = step.request().items.get(place) else {
         return Ok(held);
     };
     let Some(answer) = step.response.response().items.get(place) else {

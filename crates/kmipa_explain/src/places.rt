@@ -10,13 +10,13 @@ use kmipa_check::Step;
 use kmipa_msgs::{Answer, Ask};
 
 /// What an item asks for; none where the turn itself is meant, or the request has no such item.
-pub fn ask_at<'b, 'a>(step: &Step<'b, 'a>, item: usize) -> Option<&'b Ask<'a>>
+pub fn ask_at<'c, 'b, 'a>(step: &'c Step<'b, 'a>, item: usize) -> Option<&'c Ask<'a>>
     ensures { option_map (λ ask. ask_of ask.now) result ≡ at_item (step_of step.now).request.items item }
 {
     if item == 0 {
         return None;
     }
-    match step.request.items.get(item - 1) {
+    match step.request().items.get(item - 1) {
         Some(ask) => Some(ask),
         None => None,
     }
@@ -36,11 +36,11 @@ pub fn answer_at<'c, 'b, 'a>(step: &'c Step<'b, 'a>, item: usize) -> Option<&'c 
 }
 
 /// What an item asks for that has its answer.
-pub fn ask_there<'b, 'a>(step: &Step<'b, 'a>, item: usize) -> &'b Ask<'a>
+pub fn ask_there<'c, 'b, 'a>(step: &'c Step<'b, 'a>, item: usize) -> &'c Ask<'a>
     requires { HasPair (step_of step.now) item }
     ensures { at_item (step_of step.now).request.items item ≡ Some (ask_of result.now) }
 {
-    &step.request.items[item - 1]
+    &step.request().items[item - 1]
 }
 
 /// The answer of an item that is asked.

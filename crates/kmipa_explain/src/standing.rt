@@ -140,7 +140,7 @@ fn take_step<L: Ledger>(
         alloc,
         ledger,
         rules,
-        step.request,
+        step.request(),
         step.response.response(),
         step.places(),
     ) {
@@ -210,7 +210,7 @@ fn take_item<L: Ledger>(
         (placeholder_of placeholder.new)) }
     ensures memory { IfErr result (λ fault. fault ≡ CheckFault.Memory) }
 {
-    let Some(ask) = step.request.items.get(place) else {
+    let Some(ask) = step.request().items.get(place) else {
         return Ok(());
     };
     let Some(answer) = step.response.response().items.get(place) else {

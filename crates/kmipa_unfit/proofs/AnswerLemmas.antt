@@ -9,7 +9,7 @@ use Rattle.kmipa_msgs.specs.Responses.{SaysResponse, ResponseFault}
 use Rattle.kmipa_record.specs.Marks.{MarkOf}
 use Rattle.kmipa_record.specs.Witnesses.{FillOf, TurnOf}
 use Rattle.kmipa_check.specs.Calls.{CallOf, AreOutside, AreResponse, IsEnded, has_ended, is_open, IsRecorded}
-use Rattle.kmipa_check.specs.Births.{AreBirthsWanted, BirthFault}
+use Rattle.kmipa_check.specs.Births.{AreBirthsWanted, BirthFault, SomeMisformed}
 use Rattle.kmipa_check.specs.Births
 use Rattle.kmipa_check.specs.Fills.{AreWanted, FillFault}
 use Rattle.kmipa_check.specs.Fills
@@ -61,7 +61,7 @@ module _ (g : GrantsOf) (c : CallOf) (t : TurnOf) (kind : WitnessKind) where
   parted (unfit_places x had moment timed fault) = by_response x had (of_places fault)
   parted (unfilled x had moment timed places gives taken fault) = by_response x had (of_fills fault)
   parted (unfit_births x had moment timed places gives taken full filled fault) = by_response x had (of_births fault)
-  parted (unfit_asides x had moment timed places gives taken full filled none some is) = by_response x had (of_asides some is)
+  parted (unfit_asides x had moment timed places gives taken full filled asked born some is) = by_response x had (of_asides some is)
 
   pub ended_kind : (response : ResponseOf) → c.response ≡ Some response → (t.answer ≡ None → ⊥) → GivenFault g c t kind → kind ≡ AnswerNotWanted
   ended_kind response has some fault = by (parted fault)
@@ -150,7 +150,7 @@ module _ (g : GrantsOf) (request : RequestOf) (response : ResponseOf) (t : TurnO
   about_fills (Fills.missing all none is) = ap about is
   about_fills (Fills.misformed all none some is) = ap about is
 
-  about_births : BirthFault request response t.births kind → about kind ≡ 3
+  about_births : BirthFault g request response t.births kind → about kind ≡ 3
   about_births (Births.not_wanted none is) = ap about is
   about_births (Births.formless all some is) = ap about is
 
@@ -182,7 +182,7 @@ module _ (g : GrantsOf) (request : RequestOf) (response : ResponseOf) (t : TurnO
       by (Places.unwanted some wants is) = absurd cc
       by (Places.disordered some wants none is) = none
 
-  births_left : IsAnsweredFault g request response t kind → about kind ≡ 3 → BirthFault request response t.births kind
+  births_left : IsAnsweredFault g request response t kind → about kind ≡ 3 → BirthFault g request response t.births kind
   births_left (of_moment late is) e = let a = ap about is in absurd cc
   births_left (of_places f) e = let a = about_places f in absurd cc
   births_left (of_fills f) e = let a = about_fills f in absurd cc
@@ -192,14 +192,14 @@ module _ (g : GrantsOf) (request : RequestOf) (response : ResponseOf) (t : TurnO
   pub birth_unwanted : IsAnsweredFault g request response t kind → kind ≡ BirthNotWanted → AreBirthsWanted request response t.births → ⊥
   birth_unwanted fault e = by (births_left fault (ap about e))
     where
-      by : BirthFault request response t.births kind → AreBirthsWanted request response t.births → ⊥
+      by : BirthFault g request response t.births kind → AreBirthsWanted request response t.births → ⊥
       by (Births.not_wanted none is) = none
       by (Births.formless all some is) = absurd cc
 
-  pub birth_formless : IsAnsweredFault g request response t kind → kind ≡ BirthForm → AreBirthsWanted request response t.births × (t.births ≢ [])
+  pub birth_formless : IsAnsweredFault g request response t kind → kind ≡ BirthForm → AreBirthsWanted request response t.births × SomeMisformed g t.births
   birth_formless fault e = by (births_left fault (ap about e))
     where
-      by : BirthFault request response t.births kind → AreBirthsWanted request response t.births × (t.births ≢ [])
+      by : BirthFault g request response t.births kind → AreBirthsWanted request response t.births × SomeMisformed g t.births
       by (Births.not_wanted none is) = absurd cc
       by (Births.formless all some is) = (all, some)
 

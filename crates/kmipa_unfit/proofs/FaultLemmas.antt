@@ -39,7 +39,7 @@ given_kind g c t kind (unfilled x had moment timed ps gives taken (Fills.missing
 given_kind g c t kind (unfilled x had moment timed ps gives taken (Fills.misformed all none some is)) e = absurd cc
 given_kind g c t kind (unfit_births x had moment timed ps gives taken full filled (Births.not_wanted none is)) e = absurd cc
 given_kind g c t kind (unfit_births x had moment timed ps gives taken full filled (Births.formless all some is)) e = absurd cc
-given_kind g c t kind (unfit_asides x had moment timed ps gives taken full filled none some is) e = absurd cc
+given_kind g c t kind (unfit_asides x had moment timed ps gives taken full filled asked born some is) e = absurd cc
 
 turn_kind : (g : GrantsOf) (calls : List CallOf) (turns : List TurnOf) (place : ℕ) (kind : WitnessKind) → TurnFault g calls turns place kind → kind ≡ LeftOut → ⊥
 turn_kind g calls turns place kind (unknown n at none is) e = absurd cc

@@ -4,14 +4,15 @@ use Rattle.std.specs.Prelude.{MatchOption}
 use Rattle.std.proofs.lemmas.Option.{slice_get-get_or}
 use Rattle.kmipa_msgs.specs.Messages.{AskOf, AnswerOf, RequestOf, ResponseOf}
 use Rattle.kmipa_record.specs.Witnesses.{BirthOf, FillOf}
-use Rattle.kmipa_check.specs.Births.{AreBirthsWanted}
+use Rattle.kmipa_check.specs.Births.{AreBirthsWanted, IsMisformed, SomeMisformed}
+use Rattle.kmipa_check.specs.Grants.{GrantsOf}
 use Rattle.kmipa_check.specs.Fills.{AreWanted}
 use Rattle.kmipa_check.proofs.FillLemmas.{pair_at}
 use Rattle.kmipa_check.proofs.FillingLemmas.{is_wanted_here}
 use Rattle.kmipa_check.proofs.PlaceLemmas.{at_contains, at_within, get_at}
 use Rattle.kmipa_unfit.specs.OrderFinding.{IsAhead, StandsAhead}
 use Rattle.kmipa_unfit.specs.PartFinding.{AreWantedParts, IsWantedPart, UnwantedAt, WantsPart}
-use Rattle.kmipa_unfit.specs.UnfitBirths.{items_born}
+use Rattle.kmipa_unfit.specs.UnfitBirths.{IsMisformedAt, items_born}
 use Rattle.kmipa_unfit.specs.UnfitFills.{items_filled}
 use Rattle.kmipa_unfit.specs.UnfitOrders.{AreAnswered, IsUnanswered}
 use Rattle.kmipa_unfit.specs.UnfitParts.{IsUnwantedAt, IsWantedFor, UnwantedAnswer, UnwantedItem, UnwantedPartAt}
@@ -122,3 +123,17 @@ module _ (part : Part) (request : RequestOf) (response : ResponseOf) (items : Li
       let same : item ≡ other = cc in
       let P : ℤ → Type 0 = λ z. IsWantedFor part request response z × (StandsAhead items place z → ⊥) in
       subst P same (wanted, alone)
+
+-- births that are formed
+
+pub birth_formed : (g : GrantsOf) (births : List BirthOf) (place : ℕ) (birth : BirthOf) → slice_get births place ≡ Some birth → (IsMisformed g birth → ⊥) → IsMisformedAt g births place → ⊥
+birth_formed g births place birth there formed m =
+    let stands = m.there in
+    let same : m.birth ≡ birth = cc in
+    let P : BirthOf → Type 0 = λ b. IsMisformed g b in
+    formed (subst P same m.misformed)
+
+pub some_formed : (g : GrantsOf) (births : List BirthOf) (count : ℕ) → length births ≤ count → Below (λ place. IsMisformedAt g births place → ⊥) count → SomeMisformed g births → ⊥
+some_formed g births count past below s =
+    let p = at_contains births s.birth s.one in
+    below p.0 (omega (arith, at_within births p.0 s.birth p.1, past)) (record { birth = s.birth; there = p.1; misformed = s.misformed })

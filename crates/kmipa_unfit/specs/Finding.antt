@@ -57,7 +57,7 @@ pub data IsAnsweredFault (g : GrantsOf) (request : RequestOf) (response : Respon
   of_moment : IsUntimely g response.stamp t.moment → kind ≡ MomentForm → IsAnsweredFault g request response t kind
   of_places : PlacesFault request response t.places kind → IsAnsweredFault g request response t kind
   of_fills : FillFault request response t.fills kind → IsAnsweredFault g request response t kind
-  of_births : BirthFault request response t.births kind → IsAnsweredFault g request response t kind
+  of_births : BirthFault g request response t.births kind → IsAnsweredFault g request response t kind
   of_asides : t.asides ≢ [] → kind ≡ AsideForm → IsAnsweredFault g request response t kind
 
 -- what it comes to that an answer can't be read

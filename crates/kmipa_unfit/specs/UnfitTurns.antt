@@ -60,7 +60,7 @@ TellsAnswered g request response t kind (Untimely f) = (kind ≡ kinds.MomentFor
 TellsAnswered g request response t kind (Ordered o) = (kind ≡ kinds.OrderNotWanted) × (t.places ≢ []) × IsOrdered request response t.places o
 TellsAnswered g request response t kind (Disordered d) = (kind ≡ kinds.OrderForm) × IsDisordered request response t.places d
 TellsAnswered g request response t kind (BirthUnwanted u) = (kind ≡ kinds.BirthNotWanted) × IsUnwantedPart Birth request response (items_born t.births) u
-TellsAnswered g request response t kind (BirthFormless item) = (kind ≡ kinds.BirthForm) × IsFormlessBirth request response t.births item
+TellsAnswered g request response t kind (BirthFormless f) = (kind ≡ kinds.BirthForm) × IsFormlessBirth g request response t.births f
 TellsAnswered g request response t kind (Aside number) = (kind ≡ kinds.AsideForm) × IsFirstAside t.asides number
 TellsAnswered g request response t kind other = TellsFill request response t.fills kind other
 

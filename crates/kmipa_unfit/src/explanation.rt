@@ -44,9 +44,8 @@ pub enum Unfit {
     FillFormless(FormlessFill),
     /// Of `BirthNotWanted`: the first birth that isn't wanted.
     BirthUnwanted(UnwantedPart),
-    /// Of `BirthForm`: the item that the first birth names. No declaration that is judged names an attribute that a server may give of its
-    /// own, so no birth has its form.
-    BirthFormless(i32),
+    /// Of `BirthForm`: the first birth that gives no attributes that the server itself may give.
+    BirthFormless(FormlessBirth),
     /// Of `AsideForm`: the first item that the turn sets aside.
     Aside(i32),
 }
@@ -138,6 +137,15 @@ pub enum Unwanted {
     Operations(u32, u32),
     /// An earlier fill, or birth, names the same item: which one, counted from 1.
     Second(usize),
+}
+
+/// A birth that gives no attributes that the server itself may give: it has none, or one with a fault, or one for which there is no own line.
+#[derive(Clone, Copy, PartialEq, Eq)]
+pub struct FormlessBirth {
+    /// Which of the turn's births it is, counted from 1.
+    pub birth: usize,
+    /// The number of the item that it names.
+    pub item: i32,
 }
 
 /// An item whose payload is wanted, and that has no fill.

@@ -11,6 +11,6 @@ mod turns;
 
 pub use explaining::explain_witness;
 pub use explanation::{
-    Disorder, FarMoment, FormlessFill, MissingFill, OrderTold, Ordered, Part, Unfit, Unwanted,
-    UnwantedPart, WitnessExplanation, Wrong,
+    Disorder, FarMoment, FormlessBirth, FormlessFill, MissingFill, OrderTold, Ordered, Part, Unfit,
+    Unwanted, UnwantedPart, WitnessExplanation, Wrong,
 };

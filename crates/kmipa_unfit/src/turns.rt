@@ -12,7 +12,7 @@ ghost use Rattle.kmipa_check.specs.Orders.{GivenFault, NamesBefore};
 ghost use Rattle.kmipa_unfit.specs.Finding.{AnswerSays, IsAnsweredFault, IsEarliest, IsNamedFault, TellsNamed, unread};
 ghost use Rattle.kmipa_unfit.specs.UnfitTurns.{IsFarMoment, TellsAnswered, TellsGiven, numbers_asked};
 
-use crate::births::unwanted_birth;
+use crate::births::{formless_birth, unwanted_birth};
 use crate::explanation::{FarMoment, Unfit};
 use crate::fills::fill_unfit;
 use crate::orders::{disordered, ordered};
@@ -188,7 +188,11 @@ fn answered_unfit(
             response,
             &turn.births,
         )?)),
-        WitnessKind::BirthForm => Ok(Unfit::BirthFormless(turn.births[0].item)),
+        WitnessKind::BirthForm => Ok(Unfit::BirthFormless(formless_birth(
+            alloc,
+            grants,
+            &turn.births,
+        )?)),
         WitnessKind::AsideForm => Ok(Unfit::Aside(turn.asides[0])),
         _ => fill_unfit(alloc, request, response, &turn.fills, kind),
     }

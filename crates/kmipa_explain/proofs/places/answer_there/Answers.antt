@@ -1,8 +1,8 @@
 use Rattle.std.proofs.Common.{rules, ◌≡◌, ◌∙◌, ◌-◌, ◌<◌, length, slice_get, sym, ap, subst, arith}
 use Rattle.std.specs.Vec.{vec_len}
 use Rattle.std.proofs.lemmas.List.{length-map}
-use Rattle.kmipa_msgs.specs.Messages.{ResponseOf, answer_of, request_of}
-use Rattle.kmipa_check.specs.Steps.{given_of}
+use Rattle.kmipa_msgs.specs.Messages.{ResponseOf, answer_of}
+use Rattle.kmipa_check.specs.Steps.{given_of, posed_of}
 use Rattle.kmipa_check.proofs.PlaceLemmas.{mapped_at}
 use Rattle.kmipa_explain.proofs.PairLemmas.{answered_within, at_before, pair_some}
 use Rattle.kmipa_explain.proofs.places.answer_there.Goals as goal
@@ -10,7 +10,7 @@ use Rattle.kmipa_explain.proofs.places.answer_there.Goals as goal
 pub index-requires : goal.index-requires
 index-requires c =
     let items = c.response.result.now.items in
-    let within = answered_within (request_of c.args.step.now.request.now).items (given_of c.args.step.now.response).items c.args.item c.requires.0 c.requires.1 c.requires.2 in
+    let within = answered_within (posed_of c.args.step.now.request).items (given_of c.args.step.now.response).items c.args.item c.requires.0 c.requires.1 c.requires.2 in
     let P : ResponseOf → Type 0 = λ r. c.args.item - 1 < length r.items in
     let here = subst P (sym c.response.ensures) within in
     let long : length items.items ≡ vec_len items = search rules in
@@ -18,7 +18,7 @@ index-requires c =
 
 pub returns : goal.returns
 returns c =
-    let asks = (request_of c.args.step.now.request.now).items in
+    let asks = (posed_of c.args.step.now.request).items in
     let answers = (given_of c.args.step.now.response).items in
     let given = c.response.result.now.items.items in
     let within = answered_within asks answers c.args.item c.requires.0 c.requires.1 c.requires.2 in

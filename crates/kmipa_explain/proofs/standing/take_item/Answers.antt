@@ -1,6 +1,6 @@
 use Rattle.std.proofs.Common.{rules, ◌∙◌, FitsSigned, w64, Ok, slice_get, sym, ap}
 use Rattle.std.proofs.lemmas.Int.{to_z-of_z}
-use Rattle.kmipa_msgs.specs.Messages.{ResponseOf, answer_of, ask_of, rules_of}
+use Rattle.kmipa_msgs.specs.Messages.{RequestOf, ResponseOf, answer_of, ask_of, rules_of}
 use Rattle.kmipa_ops.specs.Placeholders.{placeholder_of}
 use Rattle.kmipa_batch.specs.Calls.{pairs_of}
 use Rattle.kmipa_batch.proofs.PlaceLemmas.{got_none, got_some, pair_both, pair_no_left, pair_no_right, readable_at}
@@ -11,9 +11,9 @@ use Rattle.kmipa_explain.proofs.standing.take_item.Goals as goal
 pub returns-in_default-clause-taken : goal.returns-in_default-clause-taken
 returns-in_default-clause-taken g c =
     let s = step_of c.args.step.now in
-    let none = got_none ask_of c.deref.result.now c.args.step.now.request.now.items.items c.args.place c.deref.ensures.value c.in_default.ensures.lookup.3 in
+    let none = got_none ask_of c.deref.result.now c.request.result.now.items.items c.args.place c.deref.ensures.value c.in_default.ensures.lookup.3 in
     pair_absent (rules_of c.args.rules.now) (g.L.Ledger.state c.args.ledger.now) (placeholder_of c.args.placeholder.now) s.response.stamp (slice_get (pairs_of s.request s.response) c.args.place)
-    (pair_no_left s.request.items s.response.items c.args.place none) c.requires.sound
+    (pair_no_left s.request.items s.response.items c.args.place (ap (λ (r : RequestOf). slice_get r.items c.args.place) (sym c.request.ensures) ∙ none)) c.requires.sound
 
 pub returns-in_default-get-clause-taken : goal.returns-in_default-get-clause-taken
 returns-in_default-get-clause-taken g c =
@@ -25,7 +25,8 @@ returns-in_default-get-clause-taken g c =
 pub take-requires-clause-readable : goal.take-requires-clause-readable
 take-requires-clause-readable g c =
     let s = step_of c.args.step.now in
-    let asked = got_some ask_of c.deref.result.now c.args.step.now.request.now.items.items c.args.place c.in-Some.ask.now c.deref.ensures.value c.in-Some.ensures.lookup.3.0 c.in-Some.ensures.lookup.1 in
+    let taken = got_some ask_of c.deref.result.now c.request.result.now.items.items c.args.place c.in-Some.ask.now c.deref.ensures.value c.in-Some.ensures.lookup.3.0 c.in-Some.ensures.lookup.1 in
+    let asked = ap (λ (r : RequestOf). slice_get r.items c.args.place) (sym c.request.ensures) ∙ taken in
     let given = got_some answer_of c.deref-2.result.now c.response.result.now.items.items c.args.place c.in-Some-get.answer.now c.deref-2.ensures.value c.in-Some-get.ensures.lookup.3.0 c.in-Some-get.ensures.lookup.1 in
     let answered = ap (λ (r : ResponseOf). slice_get r.items c.args.place) (sym c.response.ensures) ∙ given in
     readable_at (pairs_of s.request s.response) c.args.place (ask_of c.in-Some.ask.now) (answer_of c.in-Some-get.answer.now) c.requires.readable
@@ -34,7 +35,8 @@ take-requires-clause-readable g c =
 pub returns-in-Ok-clause-taken : goal.returns-in-Ok-clause-taken
 returns-in-Ok-clause-taken g c =
     let s = step_of c.args.step.now in
-    let asked = got_some ask_of c.deref.result.now c.args.step.now.request.now.items.items c.args.place c.in-Some.ask.now c.deref.ensures.value c.in-Some.ensures.lookup.3.0 c.in-Some.ensures.lookup.1 in
+    let taken = got_some ask_of c.deref.result.now c.request.result.now.items.items c.args.place c.in-Some.ask.now c.deref.ensures.value c.in-Some.ensures.lookup.3.0 c.in-Some.ensures.lookup.1 in
+    let asked = ap (λ (r : RequestOf). slice_get r.items c.args.place) (sym c.request.ensures) ∙ taken in
     let given = got_some answer_of c.deref-2.result.now c.response.result.now.items.items c.args.place c.in-Some-get.answer.now c.deref-2.ensures.value c.in-Some-get.ensures.lookup.3.0 c.in-Some-get.ensures.lookup.1 in
     let answered = ap (λ (r : ResponseOf). slice_get r.items c.args.place) (sym c.response.ensures) ∙ given in
     let there = pair_both s.request.items s.response.items c.args.place (ask_of c.in-Some.ask.now) (answer_of c.in-Some-get.answer.now) asked answered in
