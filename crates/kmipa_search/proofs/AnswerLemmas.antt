@@ -26,14 +26,14 @@ use Rattle.kmipa_search.specs.LawsOfCheck.{LawsOfCheck}
 use Rattle.kmipa_search.specs.Candidates.{AreNotPlain}
 use Rattle.kmipa_search.specs.Plain.{ArePlain, AreApart, IsForced}
 use Rattle.kmipa_search.specs.Next.{weight}
-use Rattle.kmipa_search.specs.Progress.{ordered, AllReadable, HaveRun, CanBeTaken, Opens, ComesTo}
+use Rattle.kmipa_search.specs.Progress.{ordered, HaveRun, CanBeTaken, Opens, ComesTo}
 use Rattle.kmipa_search.specs.Taken.{no_step, step_at}
 use Rattle.kmipa_search.specs.Confirming.{Confirms, IsTried, turns_at}
 use Rattle.kmipa_search.specs.Outcomes.{AreOver}
 use Rattle.kmipa_search.specs.Laws.{IsEnough, EnoughDecides, ForcedIsLight}
 use Rattle.kmipa_search.specs.Found.{HasDecided, stopped, enough, one_by_one, Finds, FindsIn, Searches, SearchesIn}
 use Rattle.kmipa_search.specs.declared.found.Found.{Found}
-use Rattle.kmipa_search.specs.declared.found.Found.TheVariants.{Yes, GaveUp, Refuted, OutOfTime}
+use Rattle.kmipa_search.specs.declared.found.Found.TheVariants.{Yes, GaveUp, Refuted, Impossible, OutOfTime}
 use Rattle.kmipa_check.proofs.PlaceLemmas.{contains_at, at_contains, mapped_from, get_at}
 use Rattle.kmipa_search.proofs.WritableLemmas.{bare_written, recorded_number}
 use Rattle.kmipa_search.proofs.PermutationLemmas.{IsOnce, once_pairs}
@@ -49,6 +49,7 @@ pub found_in_time : (seconds : ℕ) (marks : List MarkOf) (declared : Declaratio
 found_in_time seconds marks declared budget (Yes witness count) f = f
 found_in_time seconds marks declared budget (GaveUp count) f = f
 found_in_time seconds marks declared budget (Refuted count object) f = f
+found_in_time seconds marks declared budget (Impossible count place) f = f
 found_in_time seconds marks declared budget (OutOfTime count after) f = absurd f
 
 pub in_time : (seconds : ℕ) (marks : List MarkOf) (declared : DeclarationOf) (budget : ℕ) (result : Result Found CheckFault) → Searches marks declared budget result
@@ -77,6 +78,7 @@ pub with_all_time : (marks : List MarkOf) (declared : DeclarationOf) (budget : �
 with_all_time marks declared budget (Ok (Yes witness count)) s = s
 with_all_time marks declared budget (Ok (GaveUp count)) s = s
 with_all_time marks declared budget (Ok (Refuted count object)) s = s
+with_all_time marks declared budget (Ok (Impossible count place)) s = s
 with_all_time marks declared budget (Ok (OutOfTime count after)) s = absurd (omega (arith, s.2, s.3))
 with_all_time marks declared budget (Err fault) s = s
 
@@ -242,6 +244,7 @@ module _ (marks : List MarkOf) (declared : DeclarationOf) (calls : List CallOf) 
             (subst P (sym c.0) a, subst W (sym c.0) (writable places in_steps witness is), omega (arith, c.1, few), omega (arith, c.1, subst Q (sym c.0) turns_long))
         by a (Ok (GaveUp n)) c = absurd c
         by a (Ok (Refuted n object)) c = absurd c
+        by a (Ok (Impossible n place)) c = absurd c
         by a (Ok (OutOfTime n after)) c = absurd c
         by a (Err fault.Memory) c = tt
         by a (Err (fault.Outside number side o)) c = absurd c
@@ -276,6 +279,7 @@ tried marks declared calls budget count witness (Ok (Yes w n)) laws r are not fe
     (subst P (sym h.0) h.2, subst W (sym h.0) h.3, omega (arith, h.1, few), omega (arith, h.1, subst Q (sym h.0) paid))
 tried marks declared calls budget count witness (Ok (GaveUp n)) laws r are not few paid h = undecided marks declared calls budget n laws r are not (omega (arith, h, few))
 tried marks declared calls budget count witness (Ok (Refuted n object)) laws r are not few paid h = absurd h
+tried marks declared calls budget count witness (Ok (Impossible n place)) laws r are not few paid h = absurd h
 tried marks declared calls budget count witness (Ok (OutOfTime n after)) laws r are not few paid h = absurd h
 tried marks declared calls budget count witness (Err fault.Memory) laws r are not few paid h = tt
 tried marks declared calls budget count witness (Err (fault.Outside number side o)) laws r are not few paid h = absurd h
@@ -291,4 +295,5 @@ enough_decides_lem one_list marks declared calls budget (GaveUp count) nothing r
     let P : List CallOf → Type 0 = λ cs. IsEnough cs budget in
     f.1.2 nothing (elim (subst P (one_list marks calls f.1.0 r are f.1.1) few) [ inl p ↦ enough p.0 p.1 p.2 | inr p ↦ one_by_one p.0 p.1 ]) explained
 enough_decides_lem one_list marks declared calls budget (Refuted count object) nothing r are few f = f.2
+enough_decides_lem one_list marks declared calls budget (Impossible count place) nothing r are few f = f.2
 enough_decides_lem one_list marks declared calls budget (OutOfTime count after) nothing r are few f = absurd f

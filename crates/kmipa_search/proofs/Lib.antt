@@ -36,3 +36,5 @@ pub mod NotedLemmas
 pub mod PartLemmas
 pub mod RefutedLemmas
 pub mod MomentLemmas
+pub mod HopelessLemmas
+pub mod UnheldLemmas

@@ -6,9 +6,9 @@ use Rattle.kmipa_check.specs.Grants.{GrantsNothing, grants_declared}
 use Rattle.kmipa_check.specs.declared.fault.CheckFault.{CheckFault}
 use Rattle.kmipa_check.specs.declared.fault.CheckFault.TheVariants as fault
 use Rattle.kmipa_search.specs.ByMoments.{IsKept}
-use Rattle.kmipa_search.specs.Found.{Finds, FindsIn, HasDecided, Searches, SearchesIn}
+use Rattle.kmipa_search.specs.Found.{Finds, FindsIn, HasDecided, Searches}
 use Rattle.kmipa_search.specs.declared.found.Found.{Found}
-use Rattle.kmipa_search.specs.declared.found.Found.TheVariants.{Yes, GaveUp, Refuted, OutOfTime}
+use Rattle.kmipa_search.specs.declared.found.Found.TheVariants.{Yes, GaveUp, Refuted, Impossible, OutOfTime}
 
 -- what is found within a part of the budget is found within the whole
 pub raised : (marks : List MarkOf) (declared : DeclarationOf) (budget kept : ℕ) (found : Found) → IsKept declared budget kept → Finds marks declared kept found → Finds marks declared budget found
@@ -24,6 +24,7 @@ raised marks declared budget kept (GaveUp count) k f = (
   ),
 )
 raised marks declared budget kept (Refuted count object) k f = (omega (arith, f.0, k.few), f.1, f.2)
+raised marks declared budget kept (Impossible count place) k f = (omega (arith, f.0, k.few), f.1, f.2)
 raised marks declared budget kept (OutOfTime count after) k f = absurd f
 
 -- and where the seconds are over within a part of it, they are over within the whole

@@ -1,9 +1,9 @@
 -- Where calls have a run, their parts on an object have one.
 use Rattle.std.proofs.Common.{◌≡◌, ◌≢◌, ◌<◌, ◌⊎◌, inl, inr, ℕ, zero, suc, Bool, true, false, cond, List, [], ◌∷◌, ◌++◌, map, take, length, get_or, ◌+◌, bytes_eq, slice_get, Option, Some, None, Contains, refl, sym, ap, ◌∙◌, subst, arith}
 use Rattle.std.specs.Prelude.{AllPairs, IsPermutation}
-use Rattle.std.specs.List.{filter, filter_map, AllZip}
+use Rattle.std.specs.List.{filter, AllZip}
 use Rattle.std.proofs.lemmas.List.{append-nil, map-append, take_more}
-use Rattle.std.proofs.lemmas.List.Elements.{All-filter, Contains-append_cases, filter-append, filter_map-append}
+use Rattle.std.proofs.lemmas.List.Elements.{All-filter, Contains-append_cases, filter-append}
 use Rattle.std.proofs.lemmas.List.Kept.{AllPairs-filter}
 use Rattle.std.proofs.lemmas.List.Sorted.{Contains-permutation, IsPermutation-sym}
 use Rattle.kmipa_object.specs.Inventory.{Thing}
@@ -17,13 +17,12 @@ use Rattle.kmipa_check.specs.Described.{IsDescribed, Describes}
 use Rattle.kmipa_check.specs.Runs.{rules_declared}
 use Rattle.kmipa_check.specs.Verdicts.{AreKnown}
 use Rattle.kmipa_check.proofs.PlaceLemmas.{contains_at, at_contains, at_within, apart}
-use Rattle.kmipa_parts.specs.Parts.{cut, IsElsewhere, IsPartOf, IsPartOrNone, AreParts}
+use Rattle.kmipa_parts.specs.Parts.{cut, IsPartOrNone, AreParts}
 use Rattle.kmipa_parts.proofs.CutLemmas.{same_id, cut_has}
 use Rattle.kmipa_parts.proofs.CallLemmas.{run_projects_lem}
 use Rattle.kmipa_parts.proofs.RunLemmas.{before_back, index_is, part_at, pair_at, pairs_all, parts_pair, parts_are_placed_lem, those_there}
 use Rattle.kmipa_batch.specs.Readable.{IsReadableCall}
-use Rattle.kmipa_search.specs.ByObject.{AreOrderly, declared_on, part_step, RunsByObject}
-use Rattle.kmipa_search.specs.declared.by_object.CallPart.{CallPart}
+use Rattle.kmipa_search.specs.ByObject.{AreOrderly, declared_on, RunsByObject}
 use Rattle.kmipa_search.specs.LawsOfCheck.{LawsOfCheck}
 use Rattle.kmipa_search.specs.Progress.{AllReadable, AreBegun, AreTimed, ComesTo, HaveRun, Opens}
 use Rattle.kmipa_search.specs.Taken.{step_at, no_step}

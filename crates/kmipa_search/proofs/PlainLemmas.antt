@@ -29,7 +29,7 @@ use Rattle.kmipa_search.proofs.LinksLemmas.{which}
 
 -- nothing is granted
 abbrev pub no_grants : GrantsOf
-no_grants = record { tolerance = pos 0 }
+no_grants = record { tolerance = pos 0; own = [] }
 
 -- a call has one step
 pub one_plain_step : (c : CallOf) (s t : StepOf) → IsPlainStep c s → IsPlainStep c t → s ≡ t

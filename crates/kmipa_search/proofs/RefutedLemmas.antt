@@ -1,6 +1,6 @@
 -- Calls of which some aren't plain: where one object refutes them, no order explains them.
-use Rattle.std.proofs.Common.{◌≡◌, ◌≢◌, ◌<◌, ◌≤◌, ◌⊎◌, inl, inr, ℕ, zero, suc, ℤ, pos, List, [], ◌∷◌, ◌++◌, map, take, length, get_or, ◌+◌, slice_get, Option, Some, None, Contains, All, refl, sym, ap, ◌∙◌, subst, arith}
-use Rattle.std.specs.Prelude.{AllPairs, IsPermutation, IfOk, IfSome, Result, Ok, Err, String}
+use Rattle.std.proofs.Common.{◌≡◌, ◌≢◌, ◌<◌, ◌≤◌, ◌⊎◌, inl, inr, ℕ, zero, suc, ℤ, pos, List, [], ◌∷◌, ◌++◌, map, take, length, get_or, ◌+◌, slice_get, Option, Some, None, Contains, refl, sym, ap, ◌∙◌, subst, arith}
+use Rattle.std.specs.Prelude.{AllPairs, IfOk, IfSome, Result, Ok, Err, String}
 use Rattle.std.specs.String.{string_bytes}
 use Rattle.std.specs.declared.alloc.AllocError.{AllocError}
 use Rattle.std.specs.declared.alloc.Global.{Global}
@@ -8,19 +8,22 @@ use Rattle.std.specs.List.{filter_map, AllZip}
 use Rattle.std.proofs.lemmas.List.{append-nil, map-append}
 use Rattle.std.proofs.lemmas.List.Elements.{All-contains, filter_map-append}
 use Rattle.kmipa_object.specs.Inventory.{Thing}
+use Rattle.kmipa_attrs.specs.Sets.{Attributes}
 use Rattle.kmipa_record.specs.Marks.{MarkOf, AreRecorded}
 use Rattle.kmipa_record.specs.Declarations.{DeclarationOf}
-use Rattle.kmipa_msgs.specs.Messages.{RequestOf, ResponseOf}
+use Rattle.kmipa_record.specs.Witnesses.{BirthOf}
+use Rattle.kmipa_msgs.specs.Messages.{AskedOf, creates, registers, locates, gets, gets_attributes, activates, revokes, destroys, idles, does_other, AskOf, RequestOf, ResponseOf}
 use Rattle.kmipa_batch.specs.Readable.{IsReadableCall}
+use Rattle.kmipa_check.specs.Births.{asked_with, IsBornAt, as_asked, completed, IsBorn}
 use Rattle.kmipa_check.specs.Calls.{CallOf, AreCalls, IsRecorded, call_of}
 use Rattle.kmipa_check.specs.Calls as timing
 use Rattle.kmipa_check.specs.declared.call.Call.{Call}
 use Rattle.kmipa_check.specs.Described.{Describes}
 use Rattle.kmipa_check.specs.Grants.{GrantsOf, GrantsNothing, grants_declared}
-use Rattle.kmipa_check.specs.Runs.{EndsAhead, IsExplained, IsOfCalls, IsRun, rules_declared}
+use Rattle.kmipa_check.specs.Runs.{EndsAhead, IsOfCalls, IsRun, rules_declared}
 use Rattle.kmipa_check.specs.Steps.{StepOf, IsStep, step_with}
-use Rattle.kmipa_check.proofs.PlaceLemmas.{contains_at, at_contains, apart, get_at}
-use Rattle.kmipa_parts.specs.Parts.{cut, IsElsewhere, untouched, IsPartOf, IsPartOrNone, AreParts, MayTouch}
+use Rattle.kmipa_check.proofs.PlaceLemmas.{contains_at, at_contains, apart, at_within, get_at, some_at}
+use Rattle.kmipa_parts.specs.Parts.{cut, IsElsewhere, untouched, IsPartOf, IsPartOrNone, AreParts, may_touch, MayTouch}
 use Rattle.kmipa_parts.proofs.CallLemmas.{run_projects_lem}
 use Rattle.kmipa_parts.proofs.RunLemmas.{index_there, pair_at, pairs_all, parts_pair, parts_are_placed_lem, those_there}
 use Rattle.kmipa_search.specs.ByObject.{AreOrderly, declared_on, part_step, IsCallPart, AreCallParts, RefutesCalls, IsRefutedBy, RefutedByObject}
@@ -160,6 +163,30 @@ orderly_call_parts id calls parts timed a =
 
 -- ---- the parts of the steps of a run
 
+-- a birth doesn't change what an item may touch
+touch_born : (id : List ℕ) (asked : AskedOf) (birth : Attributes) → may_touch id (asked_with asked birth) ≡ may_touch id asked
+touch_born id (creates a) birth = refl
+touch_born id (registers r) birth = refl
+touch_born id (locates q) birth = refl
+touch_born id (gets named) birth = refl
+touch_born id (gets_attributes g) birth = refl
+touch_born id (activates named) birth = refl
+touch_born id (revokes r) birth = refl
+touch_born id (destroys named) birth = refl
+touch_born id (idles n) birth = refl
+touch_born id (does_other n) birth = refl
+
+touch_there : (g : GrantsOf) (births : List BirthOf) (place : ℕ) (ask full : AskOf) (id : List ℕ) → IsBornAt g births place ask full → may_touch id full.asked ≡ may_touch id ask.asked
+touch_there g births place ask full id (as_asked none is) = ap (λ (a : AskOf). may_touch id a.asked) is
+touch_there g births place ask full id (completed birth one its attributes of is) = ap (λ (a : AskOf). may_touch id a.asked) is ∙ touch_born id ask.asked attributes
+
+untouched_born : (g : GrantsOf) (request : RequestOf) (response : ResponseOf) (births : List BirthOf) (full : RequestOf) → IsBorn g request response births full → (id : List ℕ)
+    → (MayTouch id request → ⊥) → MayTouch id full → ⊥
+untouched_born g request response births full b id none touch =
+    let k = at_contains full.items touch.0 touch.1 in
+    let there = some_at request.items k.0 (omega (arith, at_within full.items k.0 touch.0 k.1, b.counted)) in
+    none (there.0, contains_at request.items k.0 there.0 there.1, sym (touch_there g births k.0 there.0 touch.0 id (b.each k.0 there.0 touch.0 there.1 k.1)) ∙ touch.2)
+
 -- what a call has on the object, each of its steps has
 step_part : LawsOfCheck → (g : GrantsOf) → GrantsNothing g → (id : List ℕ) (c : CallOf) (e : Option StepOf) → IsCallPart id c e → (s : StepOf) → ((t : _) × IsStep g c t s) → IsPartOrNone id s e
 step_part laws g nothing id c (Some part) h s m =
@@ -170,7 +197,7 @@ step_part laws g nothing id c None (inl h) s m =
     subst P (h.1.is ∙ sym (laws.one_step g c h.1.response m.0 s nothing h.1.plain m.1)) h.2
 step_part laws g nothing id c None (inr apart) s m =
     let P : RequestOf → Type 0 = λ r. MayTouch id r → ⊥ in
-    untouched (subst P (sym (ap (λ (x : StepOf). x.request) m.1.is)) apart)
+    untouched (subst P (sym (ap (λ (x : StepOf). x.request) m.1.is)) (untouched_born g c.request m.1.response m.0.births m.1.asked m.1.born id apart))
 
 -- where the part of a step was found
 record FoundAt (calls : List CallOf) (each : List (Option StepOf)) (order : List StepOf) (j : ℕ) (e : Option StepOf) : Type 0 where

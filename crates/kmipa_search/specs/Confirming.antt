@@ -10,7 +10,7 @@ use Rattle.kmipa_check.specs.declared.fault.CheckFault.{CheckFault}
 use Rattle.kmipa_check.specs.declared.fault.CheckFault.TheVariants as fault
 use Rattle.kmipa_search.specs.Taken.{step_at}
 use Rattle.kmipa_search.specs.declared.found.Found.{Found}
-use Rattle.kmipa_search.specs.declared.found.Found.TheVariants.{Yes, GaveUp, Refuted, OutOfTime}
+use Rattle.kmipa_search.specs.declared.found.Found.TheVariants.{Yes, GaveUp, Refuted, Impossible, OutOfTime}
 
 abbrev pub turns_at : List StepOf → List ℕ → List TurnOf
 turns_at calls places = map (λ place. bare_turn (step_at calls place).number) places
@@ -20,6 +20,7 @@ abbrev pub Confirms : Witness → ℕ → Result Found CheckFault → Type 0
 Confirms witness count (Ok (Yes w n)) = (w ≡ witness) × (n ≡ count)
 Confirms witness count (Ok (GaveUp n)) = ⊥
 Confirms witness count (Ok (Refuted n object)) = ⊥
+Confirms witness count (Ok (Impossible n place)) = ⊥
 Confirms witness count (Ok (OutOfTime n after)) = ⊥
 Confirms witness count (Err fault.Memory) = Unit {0}
 Confirms witness count (Err (fault.Outside number side o)) = ⊥
@@ -30,6 +31,7 @@ abbrev pub IsTried : List MarkOf → DeclarationOf → Witness → ℕ → Resul
 IsTried marks declared witness count (Ok (Yes w n)) = (w ≡ witness) × (n ≡ count) × IsAccepted marks declared (witness_of witness) × ((bytes : List ℕ) × IsWitness bytes (witness_of witness))
 IsTried marks declared witness count (Ok (GaveUp n)) = n ≡ count
 IsTried marks declared witness count (Ok (Refuted n object)) = ⊥
+IsTried marks declared witness count (Ok (Impossible n place)) = ⊥
 IsTried marks declared witness count (Ok (OutOfTime n after)) = ⊥
 IsTried marks declared witness count (Err fault.Memory) = Unit {0}
 IsTried marks declared witness count (Err (fault.Outside number side o)) = ⊥

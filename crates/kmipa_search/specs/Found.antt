@@ -12,9 +12,10 @@ use Rattle.kmipa_check.specs.declared.fault.CheckFault.{CheckFault}
 use Rattle.kmipa_check.specs.declared.fault.CheckFault.TheVariants.{Outside, Witness, Memory}
 use Rattle.kmipa_search.specs.Plain.{ArePlain, IsForced}
 use Rattle.kmipa_search.specs.ByObject.{IsRefutedBy}
+use Rattle.kmipa_search.specs.Hopeless.{IsHopelessIn}
 use Rattle.kmipa_search.specs.Next.{weight}
 use Rattle.kmipa_search.specs.declared.found.Found.{Found}
-use Rattle.kmipa_search.specs.declared.found.Found.TheVariants.{Yes, GaveUp, Refuted, OutOfTime}
+use Rattle.kmipa_search.specs.declared.found.Found.TheVariants.{Yes, GaveUp, Refuted, Impossible, OutOfTime}
 
 -- Where a search that gives up has decided: the calls are plain, and steps were left, or the budget was enough for every try; or they are
 -- forced, and it was enough to try each call once.
@@ -25,13 +26,15 @@ pub data HasDecided (calls : List CallOf) (budget count : ℕ) : Type 0 where
 
 -- A yes comes with a witness that is accepted and can be written. Each of its turns was tried, within the budget. Giving up comes
 -- only where all messages are inside, and tells that nothing explains these calls, where the search has decided and the declaration grants
--- nothing. Where one object refutes the transcript, nothing explains it, whatever the budget.
+-- nothing. Where one object refutes the transcript, or the answer of one call is
+-- impossible over every inventory, nothing explains it, whatever the budget.
 abbrev pub Finds : List MarkOf → DeclarationOf → ℕ → Found → Type 0
 Finds marks declared budget (Yes witness count) = IsAccepted marks declared (witness_of witness) × ((bytes : List ℕ) × IsWitness bytes (witness_of witness))
     × (count ≤ budget) × (length (witness_of witness) ≤ count)
 Finds marks declared budget (GaveUp count) = (count ≤ budget)
     × ((calls : List CallOf) × AreCalls marks calls × (GrantsNothing (grants_declared declared) → HasDecided calls budget count → IsExplained marks declared → ⊥))
 Finds marks declared budget (Refuted count object) = (count ≤ budget) × IsRefutedBy marks declared (string_bytes object) × (IsExplained marks declared → ⊥)
+Finds marks declared budget (Impossible count place) = (count ≤ budget) × IsHopelessIn marks place × (IsExplained marks declared → ⊥)
 Finds marks declared budget (OutOfTime count after) = ⊥
 
 -- what a search answers: what it found, or the first message that is outside
@@ -48,6 +51,7 @@ abbrev pub FindsIn : ℕ → List MarkOf → DeclarationOf → ℕ → Found →
 FindsIn seconds marks declared budget (Yes witness count) = Finds marks declared budget (Yes witness count)
 FindsIn seconds marks declared budget (GaveUp count) = Finds marks declared budget (GaveUp count)
 FindsIn seconds marks declared budget (Refuted count object) = Finds marks declared budget (Refuted count object)
+FindsIn seconds marks declared budget (Impossible count place) = Finds marks declared budget (Impossible count place)
 FindsIn seconds marks declared budget (OutOfTime count after) = (count ≤ budget) × ((calls : List CallOf) × AreCalls marks calls) × (after ≡ seconds) × (0 < after)
 
 abbrev pub SearchesIn : ℕ → List MarkOf → DeclarationOf → ℕ → Result Found CheckFault → Type 0

@@ -17,13 +17,14 @@ use Rattle.kmipa_search.specs.Next.{IsNext, is_next, weight}
 use Rattle.kmipa_search.specs.Taken.{so_far, AreNext, IsDead, AreSame}
 use Rattle.kmipa_search.specs.Found.{Finds}
 use Rattle.kmipa_search.specs.declared.found.Found.{Found}
-use Rattle.kmipa_search.specs.declared.found.Found.TheVariants.{Yes, GaveUp, Refuted, OutOfTime}
+use Rattle.kmipa_search.specs.declared.found.Found.TheVariants.{Yes, GaveUp, Refuted, Impossible, OutOfTime}
 use Rattle.kmipa_search.specs.Stills.{stills}
 
 abbrev pub is_yes : Found → Bool
 is_yes (Yes witness count) = true
 is_yes (GaveUp count) = false
 is_yes (Refuted count object) = false
+is_yes (Impossible count place) = false
 is_yes (OutOfTime count after) = false
 
 -- the budget is enough for every try, or, of forced calls, to try each once

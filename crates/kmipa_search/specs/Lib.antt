@@ -26,3 +26,5 @@ pub mod Stills
 pub mod Ends
 pub mod ByObject
 pub mod ByMoments
+pub mod Hopeless
+pub mod Unheld

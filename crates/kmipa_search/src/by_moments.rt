@@ -8,6 +8,8 @@ ghost use Rattle.kmipa_check.specs.Grants.{GrantsNothing, grants_declared};
 ghost use Rattle.kmipa_search.specs.ByMoments.{IsKept};
 ghost use Rattle.kmipa_search.specs.Found.{Finds, FindsIn, Searches, SearchesIn};
 
+use crate::births::GivenAtBirth;
+use crate::by_births::search_with_births;
 use crate::found::Found;
 use crate::grants::grants_nothing;
 use crate::open::dates_left;
@@ -16,22 +18,31 @@ use kmipa_check::{Call, CheckFault, needs_fill};
 use kmipa_record::{Declaration, Transcript, Turn, Witness};
 use std::alloc::{AllocError, Global};
 
-/// So many tries of all calls are made at moments.
+/// So many tries of all calls are made at moments, and so many besides with births.
 const TRIES: u64 = 2;
+const TRIES_WITH_BIRTHS: u64 = 3;
 
-/// So many steps of a budget a search at Time Stamps may make. Where the declaration has a tolerance, those are left out in which each call is
-/// tried at moments; but not where they are more than half.
+/// So many steps of a budget a search at Time Stamps may make. Where the declaration has a tolerance or own lines, those are left out in which each
+/// call is tried at moments and with births; but not where they are more than half.
 pub(crate) fn kept_steps(declaration: &Declaration, calls: &[Call], budget: u64) -> u64
     ensures { IsKept (declaration_of declaration.now) budget result }
 {
     if grants_nothing(declaration) {
         return budget;
     }
-    let left = TRIES.saturating_mul(calls.len() as u64);
+    let left = tries(declaration).saturating_mul(calls.len() as u64);
     if left > budget / 2 {
         return budget;
     }
     budget - left
+}
+
+fn tries(declaration: &Declaration) -> u64 {
+    if declaration.own_attributes.is_empty() {
+        TRIES
+    } else {
+        TRIES + TRIES_WITH_BIRTHS
+    }
 }
 
 /// What a search at Time Stamps answered; or where it gave up and the declaration has a tolerance, turns at other moments that a check accepts, if
@@ -39,7 +50,8 @@ pub(crate) fn kept_steps(declaration: &Declaration, calls: &[Call], budget: u64)
 ///
 /// # Tries
 /// The calls are taken in the order in which they ended, and left out where they didn't: each at its Time Stamp, but at no moment below that of
-/// the call before; and then the same where each that left a date which some answer shows is taken at that date.
+/// the call before; and then the same where each that left a date which some answer shows is taken at that date. Where the declaration has own lines,
+/// births that answers show are put in then, `search_with_births` says how.
 pub(crate) fn or_at_moments(
     alloc: Global,
     transcript: &Transcript,
@@ -79,6 +91,7 @@ fn found_at_moments(
         Found::Yes(witness, steps) => Ok(Found::Yes(witness, steps)),
         Found::GaveUp(steps) => gave_up(alloc, transcript, declaration, calls, budget, steps),
         Found::Refuted(steps, object) => Ok(Found::Refuted(steps, object)),
+        Found::Impossible(steps, call) => Ok(Found::Impossible(steps, call)),
         Found::OutOfTime(steps, after) => Ok(Found::OutOfTime(steps, after)),
     }
 }
@@ -121,19 +134,43 @@ fn search_at_moments(
         → IfOk result (Finds (transcript_of transcript.now) (declaration_of declaration.now) budget) }
     ensures memory { IfErr result (λ fault. fault ≡ CheckFault.Memory) }
 {
-    let turns = turns_by_end(alloc, declaration, calls, &[])?;
-    match try_turns(alloc, transcript, declaration, budget, turns, steps)? {
+    let none = GivenAtBirth::none(alloc);
+    let turns = turns_by_end(alloc, declaration, calls, &[], &none)?;
+    let found = try_turns(alloc, transcript, declaration, budget, turns, steps)?;
+    let dates = dates_left(alloc, calls, declaration, tolerance_of(declaration))?;
+    let turns = turns_by_end(alloc, declaration, calls, &dates, &none)?;
+    match or_turns(alloc, transcript, declaration, budget, turns, found)? {
         Found::GaveUp(steps) => {
-            let dates = dates_left(alloc, calls, declaration, tolerance_of(declaration))?;
-            let turns = turns_by_end(alloc, declaration, calls, &dates)?;
-            try_turns(alloc, transcript, declaration, budget, turns, steps)
+            search_with_births(alloc, transcript, declaration, calls, budget, steps)
         }
         found => Ok(found),
     }
 }
 
+/// What was found, or else what is found by these turns.
+pub(crate) fn or_turns(
+    alloc: Global,
+    transcript: &Transcript,
+    declaration: &Declaration,
+    budget: u64,
+    turns: Option<Vec<Turn>>,
+    found: Found,
+) -> Result<Found, CheckFault>
+    requires declared { AreDeclared (declaration_of declaration.now) }
+    requires granted { GrantsNothing (grants_declared (declaration_of declaration.now)) → ⊥ }
+    ensures finds { AreRecorded (transcript_of transcript.now)
+        → Finds (transcript_of transcript.now) (declaration_of declaration.now) budget found
+        → IfOk result (Finds (transcript_of transcript.now) (declaration_of declaration.now) budget) }
+    ensures memory { IfErr result (λ fault. fault ≡ CheckFault.Memory) }
+{
+    match found {
+        Found::GaveUp(steps) => try_turns(alloc, transcript, declaration, budget, turns, steps),
+        found => Ok(found),
+    }
+}
+
 /// What is found after so many steps where a check accepts these turns, if there are some: one step more for each, within the budget.
-fn try_turns(
+pub(crate) fn try_turns(
     alloc: Global,
     transcript: &Transcript,
     declaration: &Declaration,
@@ -163,12 +200,14 @@ fn try_turns(
 }
 
 /// The turns of the calls that have ended, in the order in which they did; none where one would be taken later than the tolerance allows, or waits
-/// for a payload. Each is taken at its date, where it has one, and else at its Time Stamp; but at no moment below that of the turn before.
-fn turns_by_end(
+/// for a payload. Each is taken at its date, where it has one, and else at its Time Stamp; but at no moment below that of the turn before. What it
+/// gives at birth is put in.
+pub(crate) fn turns_by_end(
     alloc: Global,
     declaration: &Declaration,
     calls: &[Call],
     dates: &[Option<i64>],
+    given: &GivenAtBirth,
 ) -> Result<Option<Vec<Turn>>, AllocError> {
     let tolerance = tolerance_of(declaration);
     let mut turns = Vec::with_capacity(alloc, calls.len())?;
@@ -187,13 +226,15 @@ fn turns_by_end(
         if needs_fill(&call.request, response) || moment.abs_diff(response.stamp) > tolerance {
             return Ok(None);
         }
-        turns.push(turn_at(alloc, call.number, response.stamp, moment))?;
+        let mut turn = turn_at(alloc, call.number, response.stamp, moment);
+        turn.births = given.births(alloc, place)?;
+        turns.push(turn)?;
     }
     Ok(Some(turns))
 }
 
 /// So many seconds a moment may be from the Time Stamp.
-fn tolerance_of(declaration: &Declaration) -> u64 {
+pub(crate) fn tolerance_of(declaration: &Declaration) -> u64 {
     u64::try_from(declaration.settings.tolerance).unwrap_or(0)
 }
 
@@ -207,7 +248,7 @@ fn turn_at(alloc: Global, call: i32, stamp: i64, moment: i64) -> Turn {
 }
 
 /// The places of the calls that have ended, in the order in which they did.
-fn places_by_end(alloc: Global, calls: &[Call]) -> Result<Vec<usize>, AllocError> {
+pub(crate) fn places_by_end(alloc: Global, calls: &[Call]) -> Result<Vec<usize>, AllocError> {
     let mut ends = Vec::new(alloc);
     for (place, call) in calls.iter().enumerate() {
         if let Some(end) = call.end {

@@ -17,6 +17,7 @@ use crate::candidate::Candidate;
 use crate::check_laws::check_laws;
 use crate::found::Found;
 use crate::grants::grants_nothing;
+use crate::hopeless::found_hopeless;
 use crate::order::{EARLY, Outcome, find_order};
 use crate::plain::candidate_of;
 use crate::suspects::{Suspect, Suspects, named_objects};
@@ -92,7 +93,8 @@ pub(crate) fn search_by_object(
     Ok(Some(Found::Refuted(all, object)))
 }
 
-/// What a search answered; or where it gave up, with the same steps, that one object refutes the calls, if one does.
+/// What a search answered; or where it gave up, with the same steps, that one object refutes the calls, or that the answer of one call is impossible
+/// over every inventory, if it is so.
 pub(crate) fn or_refuted(
     alloc: Global,
     calls: &[Call],
@@ -128,6 +130,7 @@ fn found_or_refuted(
         Found::Yes(witness, steps) => Ok(Found::Yes(witness, steps)),
         Found::GaveUp(steps) => gave_up(alloc, calls, declaration, steps),
         Found::Refuted(steps, object) => Ok(Found::Refuted(steps, object)),
+        Found::Impossible(steps, call) => Ok(Found::Impossible(steps, call)),
         Found::OutOfTime(steps, after) => Ok(Found::OutOfTime(steps, after)),
     }
 }
@@ -149,12 +152,33 @@ fn gave_up(
         return Err(CheckFault::Memory);
     };
     let Some(refuting) = refuted else {
-        return Ok(Found::GaveUp(steps));
+        return unless_hopeless(alloc, calls, declaration, steps);
     };
     let Ok(object) = String::from_str(alloc, refuting.id) else {
         return Err(CheckFault::Memory);
     };
     Ok(Found::Refuted(steps, object))
+}
+
+/// The same of one that gave up, and of which no object refutes the calls.
+fn unless_hopeless(
+    alloc: Global,
+    calls: &[Call],
+    declaration: &Declaration,
+    steps: u64,
+) -> Result<Found, CheckFault>
+    requires { AreDeclared (declaration_of declaration.now) }
+    ensures { (marks : List MarkOf) (budget : ℕ) → AreRecorded marks → AreCalls marks (map call_of calls.now)
+        → Finds marks (declaration_of declaration.now) budget (Found.GaveUp steps)
+        → Searches marks (declaration_of declaration.now) budget result }
+{
+    let Ok(hopeless) = found_hopeless(alloc, calls, steps) else {
+        return Err(CheckFault::Memory);
+    };
+    match hopeless {
+        Some(found) => Ok(found),
+        None => Ok(Found::GaveUp(steps)),
+    }
 }
 
 /// The first object that is found of which the parts of the calls have no run, where the declaration grants nothing: calls may else be taken at

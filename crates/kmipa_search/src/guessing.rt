@@ -217,7 +217,10 @@ pub fn take_turn<L: Ledger>(
     ensures { TurnTried (L.state ledger.old) result (L.state ledger.new) }
 {
     check_laws();
-    let grants = Grants { tolerance: 0 };
+    let grants = Grants {
+        tolerance: 0,
+        own: &[],
+    };
     let step = match step_of_turn(alloc, &grants, call, turn) {
         Ok(step) => step,
         Err(StepFault::Unfit(_)) => return Ok(None),
@@ -230,7 +233,7 @@ pub fn take_turn<L: Ledger>(
         alloc,
         ledger,
         rules,
-        step.request,
+        step.request(),
         step.response.response(),
         step.places(),
     ) {

@@ -1,6 +1,7 @@
 //! Laws of the definitions.
 
 ghost use Rattle.kmipa_search.specs.ByObject.{RefutedByObject, RunsByObject};
+ghost use Rattle.kmipa_search.specs.Hopeless.{HopelessExplainsNothing};
 ghost use Rattle.kmipa_search.specs.Laws.{EnoughDecides, ForcedIsLight, IdleFirst, NextIsTested, EqualIsEqual};
 
 use crate::check_laws::check_laws;
@@ -45,6 +46,13 @@ pub fn runs_by_object()
 /// explains the transcript.
 pub fn refuted_by_object()
     ensures { RefutedByObject }
+{
+    check_laws();
+}
+
+/// Where the answer of one call is impossible over every inventory, no order explains the transcript, whatever the declaration grants.
+pub fn hopeless_explains_nothing()
+    ensures { HopelessExplainsNothing }
 {
     check_laws();
 }

@@ -2,6 +2,8 @@
 #![tactic(auto)]
 
 mod accepted;
+mod births;
+mod by_births;
 mod by_lives;
 mod by_moments;
 mod by_object;
@@ -16,6 +18,7 @@ mod found;
 mod grants;
 mod guesses;
 mod guessing;
+mod hopeless;
 mod idle;
 mod laws;
 mod links;
@@ -38,6 +41,7 @@ mod stuck;
 mod suspects;
 mod taken;
 mod tried;
+mod unheld;
 mod watch;
 
 pub use deepest::Deepest;
@@ -45,8 +49,8 @@ pub use forced::is_forced;
 pub use found::Found;
 pub use grants::grants_nothing;
 pub use laws::{
-    enough_decides, equal_is_equal, forced_is_light, idle_first, next_is_tested, refuted_by_object,
-    runs_by_object,
+    enough_decides, equal_is_equal, forced_is_light, hopeless_explains_nothing, idle_first,
+    next_is_tested, refuted_by_object, runs_by_object,
 };
 pub use open_searching::{search_open, search_open_calls};
 pub use reaching::reached;

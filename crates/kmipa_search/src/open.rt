@@ -17,4 +17,5 @@ mod turns;
 pub use answer::spelling_of;
 pub use dates::dates_left;
 pub use descent::find_turns;
+pub use identifiers::{asked_id, shown_id};
 pub use tables::Tables;

@@ -1,7 +1,7 @@
 //! The search for a witness.
 
 ghost use Rattle.std.specs.Prelude.{◌≡◌, ◌<◌, ◌⊎◌, All, IfErr, IfOk, IfSome, Err, List, Ok, length, map, true, ℕ};
-ghost use Rattle.kmipa_record.specs.Declarations.{AreDeclared, declaration_of};
+ghost use Rattle.kmipa_record.specs.Declarations.{AreDeclared, DeclarationOf, declaration_of};
 ghost use Rattle.kmipa_record.specs.Marks.{AreRecorded, MarkOf};
 ghost use Rattle.kmipa_record.specs.Transcripts.{transcript_of};
 ghost use Rattle.kmipa_record.specs.Witnesses.{IsWitness, witness_of};
@@ -24,6 +24,7 @@ use crate::check_laws::check_laws;
 use crate::forthright::forthright_order;
 use crate::found::Found;
 use crate::guessing::guess_order;
+use crate::hopeless::search_hopeless;
 use crate::order::{EARLY, find_order};
 use crate::plain::{all_plain, candidates, every_candidate};
 use crate::watch::{Unwatched, Watch};
@@ -46,8 +47,9 @@ use std::alloc::Global;
 /// Where all calls are plain and the budget is enough for them, the order in which they are tried if each is possible is made first, without a
 /// ledger, and checked: mostly it is the one that is found, and the calls are taken once. Where it isn't, and the first 1,000 steps don't end the
 /// search, the lives of the objects propose an order: where a check accepts it, it is found with those steps and one more for each call.
-/// Where it doesn't, the objects are searched one by one: where one has no order of its own, it refutes the calls. So they are where a search of
-/// calls gives up that aren't all plain. Where the declaration has a tolerance no object is searched; and where no witness is found at the Time
+/// Where it doesn't, the objects are searched one by one: where one has no order of its own, it refutes the calls. Where none does, each call is
+/// looked at by itself: where its answer is impossible over every inventory, no order explains it. Both are so where a search of calls gives up
+/// that aren't all plain; of these each call is looked at by itself where the first 1,000 steps find nothing, too. Where the declaration has a tolerance no object is searched; and where no witness is found at the Time
 /// Stamps, two orders are tried at other moments, one step for each call that is taken.
 /// Where some call waits for payloads, is open or has no order, and the first 1,000 steps find nothing, the lives propose turns as well: each
 /// payload as the objects stand at its own place, and with the identifier that a later answer of its batch shows.
@@ -153,7 +155,7 @@ pub fn search_plain<W: Watch>(
     }
 }
 
-/// What is found where the first steps of a search come to no end, and it has more: by the lives of the objects, or of one object.
+/// What is found where the first steps of a search come to no end, and it has more: by the lives of the objects, by one object, or by one call.
 fn search_late(
     alloc: Global,
     calls: &[Call],
@@ -172,6 +174,28 @@ fn search_late(
     if budget <= EARLY || ends_early(alloc, declaration, own, &mut Unwatched {})? {
         return Ok(None);
     }
+    match search_objects(alloc, calls, declaration, own, budget)? {
+        Some(found) => Ok(Some(found)),
+        None => search_hopeless(alloc, calls, budget),
+    }
+}
+
+/// What is found by the lives of the objects, or of one object.
+fn search_objects(
+    alloc: Global,
+    calls: &[Call],
+    declaration: &Declaration,
+    own: &[Candidate],
+    budget: u64,
+) -> Result<Option<Found>, CheckFault>
+    requires declared { AreDeclared (declaration_of declaration.now) }
+    requires each { (marks : List MarkOf) × All (IsRecorded marks) (map call_of calls.now) }
+    requires readable { AllReadable (map candidate_step own.now) }
+    ensures finds { (marks : List MarkOf) → AreRecorded marks → AreCalls marks (map call_of calls.now)
+        → ArePlain (map call_of calls.now) (map candidate_step own.now)
+        → IfOk result (λ found. IfSome found (Finds marks (declaration_of declaration.now) budget)) }
+    ensures memory { IfErr result (λ fault. fault ≡ CheckFault.Memory) }
+{
     match search_by_lives(alloc, calls, declaration, own, budget)? {
         Some(found) => Ok(Some(found)),
         None => search_by_object(alloc, calls, declaration, budget),
@@ -275,27 +299,67 @@ fn search_waiting<W: Watch>(
         → AreCalls (transcript_of transcript.now) (map call_of calls.now) → AreNotPlain (map call_of calls.now)
         → SearchesIn (W.seconds watch.old) (transcript_of transcript.now) (declaration_of declaration.now) budget result }
 {
-    if budget > EARLY && !waiting_ends_early(alloc, declaration, calls)? {
-        if let Some(found) = search_by_turns(
-            alloc,
-            transcript,
-            declaration,
-            calls,
-            false,
-            budget,
-        )? {
-            return Ok(found);
+    match search_waiting_late(alloc, transcript, declaration, calls, budget)? {
+        Some(found) => {
+            let _steps = waiting_steps(alloc, declaration, calls, watch)?;
+            Ok(found)
         }
+        None => search_left_out(alloc, transcript, declaration, calls, budget, watch),
     }
-    search_left_out(alloc, transcript, declaration, calls, budget, watch)
 }
 
-/// Whether the first steps of such a search find an order.
-fn waiting_ends_early(
+/// What is found where the first steps of such a search find no order, and it has more: by one call, or by turns that the lives propose.
+fn search_waiting_late(
+    alloc: Global,
+    transcript: &Transcript,
+    declaration: &Declaration,
+    calls: &[Call],
+    budget: u64,
+) -> Result<Option<Found>, CheckFault>
+    requires declared { AreDeclared (declaration_of declaration.now) }
+    requires each { All (IsRecorded (transcript_of transcript.now)) (map call_of calls.now) }
+    ensures finds { AreRecorded (transcript_of transcript.now)
+        → AreCalls (transcript_of transcript.now) (map call_of calls.now)
+        → IfOk result (λ found. IfSome found (Finds (transcript_of transcript.now) (declaration_of declaration.now) budget)) }
+    ensures memory { IfErr result (λ fault. fault ≡ CheckFault.Memory) }
+{
+    if budget <= EARLY {
+        return Ok(None);
+    }
+    let Some(steps) = waiting_steps(alloc, declaration, calls, &mut Unwatched {})? else {
+        return Ok(None);
+    };
+    match hopeless_after(alloc, calls, steps, budget)? {
+        Some(found) => Ok(Some(found)),
+        None => search_by_turns(alloc, transcript, declaration, calls, false, budget),
+    }
+}
+
+/// That the answer of one call is impossible over every inventory, where the first steps were all made.
+fn hopeless_after(
+    alloc: Global,
+    calls: &[Call],
+    steps: u64,
+    budget: u64,
+) -> Result<Option<Found>, CheckFault>
+    ensures finds { (marks : List MarkOf) (declared : DeclarationOf) → AreRecorded marks
+        → AreCalls marks (map call_of calls.now)
+        → IfOk result (λ found. IfSome found (Finds marks declared budget)) }
+    ensures memory { IfErr result (λ fault. fault ≡ CheckFault.Memory) }
+{
+    if steps < EARLY {
+        return Ok(None);
+    }
+    search_hopeless(alloc, calls, budget)
+}
+
+/// How many the first steps of such a search are; none where they find an order. They are reported to a watcher.
+fn waiting_steps<W: Watch>(
     alloc: Global,
     declaration: &Declaration,
     calls: &[Call],
-) -> Result<bool, CheckFault>
+    watch: &mut W,
+) -> Result<Option<u64>, CheckFault>
     requires declared { AreDeclared (declaration_of declaration.now) }
     requires each { (marks : List MarkOf) × All (IsRecorded marks) (map call_of calls.now) }
     ensures { IfErr result (λ fault. fault ≡ CheckFault.Memory) }
@@ -303,8 +367,12 @@ fn waiting_ends_early(
     let own = every_candidate(alloc, calls)?;
     let rules = rules_of_declaration(alloc, declaration)?;
     let mut ledger = open_ledger(alloc, declaration)?;
-    match guess_order(alloc, &mut ledger, &rules, &own, EARLY, &mut Unwatched {}) {
-        Ok(guessed) => Ok(guessed.turns.is_some()),
+    match guess_order(alloc, &mut ledger, &rules, &own, EARLY, watch) {
+        Ok(guessed) => Ok(if guessed.turns.is_some() {
+            None
+        } else {
+            Some(guessed.steps)
+        }),
         Err(_) => Err(CheckFault::Memory),
     }
 }

@@ -3,7 +3,7 @@ use Rattle.kmipa_record.specs.Declarations.{declaration_of}
 use Rattle.kmipa_record.specs.Transcripts.{transcript_of}
 use Rattle.kmipa_search.specs.Found.{FindsIn}
 use Rattle.kmipa_search.specs.declared.found.Found.{Found}
-use Rattle.kmipa_search.specs.declared.found.Found.TheVariants.{Yes, Refuted}
+use Rattle.kmipa_search.specs.declared.found.Found.TheVariants.{Yes, Refuted, Impossible}
 use Rattle.kmipa_search.proofs.AnswerLemmas.{in_time}
 use Rattle.kmipa_search.proofs.MomentLemmas.{raised, raised_over}
 use Rattle.kmipa_search.proofs.by_moments.found_at_moments.Goals as goal
@@ -28,6 +28,13 @@ returns-in-Refuted c = λ seconds kept r k finds.
     let declared = declaration_of c.args.declaration.now in
     let P : Found → Type 0 = λ x. FindsIn seconds marks declared kept x in
     raised marks declared c.args.budget kept (Refuted c.in-Refuted.steps c.in-Refuted.object) k (subst P c.in-Refuted.is finds)
+
+pub returns-in-Impossible : goal.returns-in-Impossible
+returns-in-Impossible c = λ seconds kept r k finds.
+    let marks = transcript_of c.args.transcript.now in
+    let declared = declaration_of c.args.declaration.now in
+    let P : Found → Type 0 = λ x. FindsIn seconds marks declared kept x in
+    raised marks declared c.args.budget kept (Impossible c.in-Impossible.steps c.in-Impossible.call) k (subst P c.in-Impossible.is finds)
 
 pub returns-in-OutOfTime : goal.returns-in-OutOfTime
 returns-in-OutOfTime c = λ seconds kept r k finds.

@@ -20,6 +20,11 @@ returns-in-Refuted c = λ seconds marks budget r are finds.
     let P : Found → Type 0 = λ x. FindsIn seconds marks (declaration_of c.args.declaration.now) budget x in
     subst P c.in-Refuted.is finds
 
+pub returns-in-Impossible : goal.returns-in-Impossible
+returns-in-Impossible c = λ seconds marks budget r are finds.
+    let P : Found → Type 0 = λ x. FindsIn seconds marks (declaration_of c.args.declaration.now) budget x in
+    subst P c.in-Impossible.is finds
+
 pub returns-in-OutOfTime : goal.returns-in-OutOfTime
 returns-in-OutOfTime c = λ seconds marks budget r are finds.
     let P : Found → Type 0 = λ x. FindsIn seconds marks (declaration_of c.args.declaration.now) budget x in

@@ -1,6 +1,6 @@
 use Rattle.std.proofs.Common.{◌≤◌, ℕ, List, Option, sym, subst}
 use Rattle.std.specs.Prelude.{All, IfSome}
-use Rattle.kmipa_msgs.specs.Messages.{ResponseOf, request_of, response_of}
+use Rattle.kmipa_msgs.specs.Messages.{RequestOf, ResponseOf, maybe_lent, response_of}
 use Rattle.kmipa_record.specs.Witnesses.{turn_of}
 use Rattle.kmipa_batch.specs.Calls.{MayTake}
 use Rattle.kmipa_batch.specs.Orders.{order_given}
@@ -14,9 +14,11 @@ use Rattle.kmipa_search.proofs.guessing.take_turn.Goals as goal
 pub take_call-requires-clause-readable : goal.take_call-requires-clause-readable
 take_call-requires-clause-readable g c =
     let step = c.in-Ok.step in
-    let R : ResponseOf → Type 0 = λ r. IsReadableCall (request_of step.request.now) r in
-    subst R (sym c.response.ensures)
-    (c.check_laws.ensures.readable no_grants c.requires.recorded.0 (call_of c.args.call.now) (turn_of c.args.turn.now) (step_of step) c.requires.recorded.1 (c.in-Ok.ensures c.requires.named))
+    let R : ResponseOf → Type 0 = λ r. IsReadableCall (step_of step).request r in
+    let Q : RequestOf → Type 0 = λ q. IsReadableCall q (response_of c.response.result.now) in
+    subst Q (sym c.request.ensures)
+    (subst R (sym c.response.ensures)
+    (c.check_laws.ensures.readable no_grants c.requires.recorded.0 (call_of c.args.call.now) (turn_of c.args.turn.now) (step_of step) c.requires.recorded.1 (c.in-Ok.ensures c.requires.named)))
 
 pub take_call-requires-clause-from_one : goal.take_call-requires-clause-from_one
 take_call-requires-clause-from_one g c =
@@ -31,4 +33,5 @@ take_call-requires-clause-order g c =
     let taken = step_taken no_grants (call_of c.args.call.now) (turn_of c.args.turn.now) step (c.in-Ok.ensures c.requires.named) in
     let R : ResponseOf → Type 0 = λ r. MayTake step.request r (order_of step) in
     let P : Option (List ℕ) → Type 0 = λ o. MayTake step.request (response_of c.response.result.now) (order_given o) in
-    subst P (sym c.places.ensures) (subst R (sym c.response.ensures) (may_take step.request step.response step.places taken))
+    let Q : RequestOf → Type 0 = λ q. MayTake q (response_of c.response.result.now) (order_given (maybe_lent c.places.result)) in
+    subst Q (sym c.request.ensures) (subst P (sym c.places.ensures) (subst R (sym c.response.ensures) (may_take step.request step.response step.places taken)))

@@ -1,5 +1,4 @@
-use Rattle.std.proofs.Common.{◌≡◌, ◌∙◌, ap, sym, length}
-use Rattle.kmipa_store.specs.Ledger.{LedgerState}
+use Rattle.std.proofs.Common.{◌∙◌, ap, sym, length}
 use Rattle.kmipa_lives.proofs.LedgerLemmas.{sound_as_before}
 use Rattle.kmipa_search.proofs.made_turns.made_items.Goals as goal
 

@@ -1,5 +1,4 @@
-use Rattle.std.proofs.Common.{◌≡◌, ◌∙◌, ap, sym, length}
-use Rattle.kmipa_store.specs.Ledger.{LedgerState}
+use Rattle.std.proofs.Common.{◌∙◌, ap, sym, length}
 use Rattle.kmipa_search.proofs.open_answers.open_answer.Goals as goal
 
 pub back-requires : goal.back-requires
