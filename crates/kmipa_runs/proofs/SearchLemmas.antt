@@ -18,9 +18,9 @@ use Rattle.kmipa_check.specs.declared.auditing.AuditFault.{AuditFault}
 use Rattle.kmipa_check.specs.declared.fault.CheckFault.{CheckFault}
 use Rattle.kmipa_search.specs.Found.{FindsIn}
 use Rattle.kmipa_search.specs.declared.found.Found.{Found}
-use Rattle.kmipa_search.specs.declared.found.Found.TheVariants.{Yes, GaveUp, Refuted, OutOfTime}
+use Rattle.kmipa_search.specs.declared.found.Found.TheVariants.{Yes, GaveUp, Refuted, Impossible, OutOfTime}
 use Rattle.kmipa_runs.specs.Lines.{PrintsFault}
-use Rattle.kmipa_runs.specs.Searches.{found_status, found_text, forced_text, AreSearched, AreUnsearched, Makes, PrintsSearch, SearchesRecords}
+use Rattle.kmipa_runs.specs.Searches.{found_status, AreSearched, AreUnsearched, Makes, PrintsSearch, SearchesRecords, searched_text}
 use Rattle.kmipa_runs.specs.Statuses.{IsSilent}
 use Rattle.kmipa_runs.specs.declared.lines.Lines.{Lines}
 use Rattle.kmipa_runs.specs.declared.searched.Searched.{Searched}
@@ -43,6 +43,7 @@ searched_files ti di t d transcript declaration searched seconds budget asked tf
   declaration = whole_file d di (λ bytes. IsDeclaration bytes (declaration_of declaration)) q.1 df q.0;
   forced = (searches p.0.recorded).0;
   found = (searches p.0.recorded).1;
+  tallied = (searches p.0.recorded).2;
 }
 
 -- a fault of them
@@ -75,7 +76,7 @@ TellsWitness witness reported said lines made old new = ((said ≡ reported.stat
 -- of a search that found one
 pub reported_witness : (searched : Searched) (reported : Lines) (witness : Witness) (count : ℕ) (said : Status) (lines old new : List ℕ)
     → searched.found ≡ Yes witness count → reported.status ≡ found_status searched.found
-    → string_bytes reported.text ≡ forced_text searched.forced ++ found_text searched.found
+    → string_bytes reported.text ≡ searched_text searched
     → TellsWitness witness reported said lines (appended_bytes old new) old new
     → appended_bytes old old ≡ []
     → PrintsSearch (Ok searched) said lines (appended_bytes old new) ⊎ (IsSilent said lines × (appended_bytes old new ≡ []))
@@ -103,6 +104,7 @@ done_is_accepted searched t d seconds budget asked said lines made a (inl p) don
     go (GaveUp count) e = let clash : status.GaveUp ≡ status.Done = sym (ap found_status e) ∙ sym p.0 ∙ done in absurd cc
     go (OutOfTime count after) e = let clash : status.GaveUp ≡ status.Done = sym (ap found_status e) ∙ sym p.0 ∙ done in absurd cc
     go (Refuted count object) e = let clash : status.GaveUp ≡ status.Done = sym (ap found_status e) ∙ sym p.0 ∙ done in absurd cc
+    go (Impossible count number) e = let clash : status.GaveUp ≡ status.Done = sym (ap found_status e) ∙ sym p.0 ∙ done in absurd cc
     go (Yes witness count) e =
         let M : Found → Type 0 = λ f. Makes f made in
         let F : Found → Type 0 = λ f. FindsIn seconds a.marks a.declared budget f in

@@ -65,22 +65,22 @@ silent_check fault said lines is p =
     subst P is p
 
 -- what is printed of a yes, or where memory ran out
-yes_printed : (t w : List ℕ) (outcome : Result Verdict AuditFault) (said : Status) (lines : List ℕ) → SaysYesOrNothing outcome → PrintsOutcome t w outcome said lines → (said ≡ status.Done) ⊎ IsSilent said lines
-yes_printed t w (Ok verdict.Yes) said lines is prints = inl prints.0
-yes_printed t w (Ok (verdict.No refused)) said lines is prints = absurd cc
-yes_printed t w (Err (audit.Transcript f)) said lines is prints = inr (silent_record (codes "transcript") f.offset f.kind said lines is prints)
-yes_printed t w (Err (audit.Declaration f)) said lines is prints = inr (silent_record (codes "declaration") f.offset f.kind said lines is prints)
-yes_printed t w (Err (audit.Witness f)) said lines is prints = inr (silent_record (codes "witness") f.offset f.kind said lines is prints)
-yes_printed t w (Err (audit.Check f)) said lines is prints = inr (silent_check f said lines is prints)
+yes_printed : (t d w : List ℕ) (outcome : Result Verdict AuditFault) (said : Status) (lines : List ℕ) → SaysYesOrNothing outcome → PrintsOutcome t d w outcome said lines → (said ≡ status.Done) ⊎ IsSilent said lines
+yes_printed t d w (Ok verdict.Yes) said lines is prints = inl prints.0
+yes_printed t d w (Ok (verdict.No refused)) said lines is prints = absurd cc
+yes_printed t d w (Err (audit.Transcript f)) said lines is prints = inr (silent_record (codes "transcript") f.offset f.kind said lines is prints)
+yes_printed t d w (Err (audit.Declaration f)) said lines is prints = inr (silent_record (codes "declaration") f.offset f.kind said lines is prints)
+yes_printed t d w (Err (audit.Witness f)) said lines is prints = inr (silent_record (codes "witness") f.offset f.kind said lines is prints)
+yes_printed t d w (Err (audit.Check f)) said lines is prints = inr (silent_check f said lines is prints)
 
-pub accepted_printed : (came_t came_w t d w : List ℕ) (failed_t failed_d failed_w : Bool) (outcome : Result Verdict AuditFault) (said : Status) (lines : List ℕ)
-    → AuditsAs t d w failed_t failed_d failed_w outcome → PrintsOutcome came_t came_w outcome said lines ⊎ IsSilent said lines → SaysYes failed_t failed_d failed_w said lines t d w
-accepted_printed came_t came_w t d w failed_t failed_d failed_w outcome said lines audits (inr silent) = λ a e f g. inr silent
-accepted_printed came_t came_w t d w failed_t failed_d failed_w outcome said lines audits (inl prints) = λ a e f g.
+pub accepted_printed : (came_t came_d came_w t d w : List ℕ) (failed_t failed_d failed_w : Bool) (outcome : Result Verdict AuditFault) (said : Status) (lines : List ℕ)
+    → AuditsAs t d w failed_t failed_d failed_w outcome → PrintsOutcome came_t came_d came_w outcome said lines ⊎ IsSilent said lines → SaysYes failed_t failed_d failed_w said lines t d w
+accepted_printed came_t came_d came_w t d w failed_t failed_d failed_w outcome said lines audits (inr silent) = λ a e f g. inr silent
+accepted_printed came_t came_d came_w t d w failed_t failed_d failed_w outcome said lines audits (inl prints) = λ a e f g.
     let P : Bool → Type 0 = λ x. AuditsAs t d w x failed_d failed_w outcome in
     let Q : Bool → Type 0 = λ x. AuditsAs t d w false x failed_w outcome in
     let R : Bool → Type 0 = λ x. AuditsAs t d w false false x outcome in
-    yes_printed came_t came_w outcome said lines (outcome_is_yes t d w a outcome (subst R g (subst Q f (subst P e audits)))) prints
+    yes_printed came_t came_d came_w outcome said lines (outcome_is_yes t d w a outcome (subst R g (subst Q f (subst P e audits)))) prints
 
 -- what is printed of a fault
 pub fault_printed : (made : Result Lines AllocError) (fault : AuditFault) (said : Status) (lines : List ℕ) → IfOk made (λ l. PrintsFault fault l.status (string_bytes l.text))

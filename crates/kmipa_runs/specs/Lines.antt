@@ -1,14 +1,16 @@
 -- What is printed of a verdict or a fault, and the status that goes with it.
-use Rattle.std.specs.Prelude.{◌≡◌, ◌⊎◌, ℕ, ℤ, Bool, false, List, [], ◌∷◌, ◌++◌, codes, Option, Some, None, Result, Ok, Err}
+use Rattle.std.specs.Prelude.{◌≡◌, ◌⊎◌, ◌+◌, ℕ, ℤ, Bool, false, List, [], ◌∷◌, ◌++◌, codes, Option, Some, None, Result, Ok, Err}
 use Rattle.std.specs.Fmt.{decimal, signed_decimal}
 use Rattle.std.specs.Io.{StartsWith}
 use Rattle.kmipa_ttlv.specs.Flaw.{fault_name}
+use Rattle.kmipa_ttlv.specs.Stream.{capped}
 use Rattle.kmipa_msgs.specs.Kinds as messages
 use Rattle.kmipa_ops.specs.Whys.{why_number, why_name}
 use Rattle.kmipa_record.specs.Kinds as files
 use Rattle.kmipa_record.specs.declared.fault.RecordKind.{RecordKind}
 use Rattle.kmipa_record.specs.declared.fault.RecordKind.TheVariants.{Ttlv, Device, Memory}
-use Rattle.kmipa_record.specs.Marks.{MarkOf}
+use Rattle.kmipa_record.specs.Declarations.{DeclarationOf}
+use Rattle.kmipa_record.specs.Marks.{AreRecorded, MarkOf}
 use Rattle.kmipa_record.specs.Witnesses.{TurnOf, IsWitness}
 use Rattle.kmipa_record.specs.Transcripts.{IsTranscript}
 use Rattle.kmipa_check.specs.Audits.{AreAccepted}
@@ -23,7 +25,9 @@ use Rattle.kmipa_check.specs.declared.fault.Side.TheVariants.{Client, Server}
 use Rattle.kmipa_check.specs.declared.verdict.Refused.{Refused}
 use Rattle.kmipa_check.specs.declared.verdict.Verdict.{Verdict}
 use Rattle.kmipa_check.specs.declared.verdict.Verdict.TheVariants as verdict
+use Rattle.kmipa_stream.specs.Counting.{HaveTally, TalliesSo}
 use Rattle.kmipa_stream.specs.Streams.{WasAnsweredAt}
+use Rattle.kmipa_stream.specs.declared.tally.Tally.{Tally}
 use Rattle.kmipa_runs.specs.Dates.{TellsSecond}
 use Rattle.kmipa_runs.specs.Statuses.{IsSilent}
 use Rattle.kmipa_runs.specs.declared.status.Status.{Status}
@@ -36,6 +40,24 @@ line (piece ∷ pieces) = piece ++ line pieces
 
 abbrev pub yes_line : List ℕ
 yes_line = line (codes "yes" ∷ [])
+
+-- the line of what became of the items of a run, where what isn't judged is set aside: how many were judged, of how many, and how many were
+-- set aside by what
+abbrev pub tally_line : Tally → List ℕ
+tally_line t = line (codes "judged: " ∷ decimal t.judged ∷ codes " of " ∷ decimal (capped (t.judged + t.by_request)) ∷ codes " items; set aside: "
+    ∷ decimal t.by_request ∷ codes " by request, 0 by answer, 0 by witness, 0 by object" ∷ [])
+
+-- none where nothing is told of them
+abbrev pub tally_text : Option Tally → List ℕ
+tally_text None = []
+tally_text (Some tally) = tally_line tally
+
+-- the lines of a yes
+abbrev pub yes_text : Option Tally → List ℕ
+yes_text tally = yes_line ++ tally_text tally
+
+abbrev pub AreYesLines : List ℕ → Type 0
+AreYesLines lines = (tally : Option Tally) × (lines ≡ yes_text tally)
 
 abbrev pub no_line : Refused → List ℕ
 no_line r = line (codes "no: turn " ∷ decimal r.turn ∷ codes " call " ∷ signed_decimal r.call
@@ -92,16 +114,22 @@ PrintsDate None lines = lines ≡ []
 PrintsDate (Some second) lines =
     (date : List ℕ) × TellsSecond second date × (lines ≡ line (codes "at " ∷ date ∷ []))
 
--- what is printed of a verdict: after a no the date of this moment
-abbrev pub PrintsStamped : Verdict → Option ℤ → Status → List ℕ → Type 0
-PrintsStamped verdict.Yes stamp said lines = (said ≡ status.Done) × (lines ≡ yes_line)
-PrintsStamped (verdict.No refused) stamp said lines = (said ≡ status.No)
+-- what is printed of a verdict: after a yes what became of the items, and after a no the date of this moment
+abbrev pub PrintsStamped : Verdict → Option ℤ → Option Tally → Status → List ℕ → Type 0
+PrintsStamped verdict.Yes stamp tally said lines = (said ≡ status.Done) × (lines ≡ yes_text tally)
+PrintsStamped (verdict.No refused) stamp tally said lines = (said ≡ status.No)
     × ((dated : List ℕ) × (PrintsDate stamp dated) × (lines ≡ no_line refused ++ dated))
 
--- what is printed of a verdict on these marks and turns: after a no the date of its turn, which is the Time Stamp of its call's response
-abbrev pub PrintsVerdict : List MarkOf → List TurnOf → Verdict → Status → List ℕ → Type 0
-PrintsVerdict marks turns verdict.Yes said lines = (said ≡ status.Done) × (lines ≡ yes_line)
-PrintsVerdict marks turns (verdict.No refused) said lines = (said ≡ status.No)
+-- what became of the items of these turns, where the marks are a transcript's
+abbrev pub TalliesRecorded : List MarkOf → DeclarationOf → List TurnOf → Option Tally → Type 0
+TalliesRecorded marks declared turns tally = AreRecorded marks → TalliesSo marks declared turns tally
+
+-- what is printed of a verdict on these marks and turns by this declaration: after a yes what became of their items, where it sets aside; and
+-- after a no the date of its turn, which is the Time Stamp of its call's response
+abbrev pub PrintsVerdict : List MarkOf → DeclarationOf → List TurnOf → Verdict → Status → List ℕ → Type 0
+PrintsVerdict marks declared turns verdict.Yes said lines = (said ≡ status.Done)
+    × ((tally : Option Tally) × TalliesRecorded marks declared turns tally × (lines ≡ yes_text tally))
+PrintsVerdict marks declared turns (verdict.No refused) said lines = (said ≡ status.No)
     × ((stamp : Option ℤ) × TellsStamp marks turns refused.call stamp × ((dated : List ℕ) × (PrintsDate stamp dated) × (lines ≡ no_line refused ++ dated)))
 
 -- After the line of a no stands the date of its turn: the Time Stamp of the response of its call, which the transcript records,
@@ -122,12 +150,14 @@ pub record IsDated (lines transcript declaration witness : List ℕ) : Type 0 wh
 abbrev pub PrintsFault : AuditFault → Status → List ℕ → Type 0
 PrintsFault fault said lines = (said ≡ fault_status fault) × (lines ≡ fault_text fault)
 
--- what is printed of an audit of this transcript and this witness: after a no the date at which the call was answered that it refuses
-abbrev pub PrintsOutcome : List ℕ → List ℕ → Result Verdict AuditFault → Status → List ℕ → Type 0
-PrintsOutcome t w (Ok verdict.Yes) said lines = (said ≡ status.Done) × (lines ≡ yes_line)
-PrintsOutcome t w (Ok (verdict.No refused)) said lines = (said ≡ status.No)
+-- what is printed of an audit of these three files: after a yes what became of the items, where the declaration sets aside; and after a no the
+-- date at which the call was answered that it refuses
+abbrev pub PrintsOutcome : List ℕ → List ℕ → List ℕ → Result Verdict AuditFault → Status → List ℕ → Type 0
+PrintsOutcome t d w (Ok verdict.Yes) said lines = (said ≡ status.Done)
+    × ((tally : Option Tally) × HaveTally t d w tally × (lines ≡ yes_text tally))
+PrintsOutcome t d w (Ok (verdict.No refused)) said lines = (said ≡ status.No)
     × ((stamp : ℤ) × WasAnsweredAt t w refused.call stamp × ((dated : List ℕ) × (PrintsDate (Some stamp) dated) × (lines ≡ no_line refused ++ dated)))
-PrintsOutcome t w (Err fault) said lines = PrintsFault fault said lines
+PrintsOutcome t d w (Err fault) said lines = PrintsFault fault said lines
 
 -- where the bytes are accepted, and no input failed, the answer is yes, or memory ran out
 abbrev pub SaysYes : Bool → Bool → Bool → Status → List ℕ → List ℕ → List ℕ → List ℕ → Type 0
@@ -136,7 +166,7 @@ SaysYes failed_t failed_d failed_w said lines t d w =
 
 -- what may stand on standard output at a status
 abbrev pub FitsStatus : Status → List ℕ → Type 0
-FitsStatus status.Done lines = lines ≡ yes_line
+FitsStatus status.Done lines = AreYesLines lines
 FitsStatus status.No lines = StartsWith lines (codes "no: turn ")
 FitsStatus status.Refused lines = StartsWith lines (codes "outside: call ")
     ⊎ (StartsWith lines (codes "witness: at ") ⊎ StartsWith lines (codes "malformed: "))

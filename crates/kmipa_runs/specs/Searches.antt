@@ -15,8 +15,10 @@ use Rattle.kmipa_check.specs.declared.fault.CheckFault.TheVariants as check
 use Rattle.kmipa_search.specs.Forced.{TellsForced}
 use Rattle.kmipa_search.specs.Found.{FindsIn}
 use Rattle.kmipa_search.specs.declared.found.Found.{Found}
-use Rattle.kmipa_search.specs.declared.found.Found.TheVariants.{Yes, GaveUp, Refuted, OutOfTime}
-use Rattle.kmipa_runs.specs.Lines.{line, PrintsFault}
+use Rattle.kmipa_search.specs.declared.found.Found.TheVariants.{Yes, GaveUp, Refuted, Impossible, OutOfTime}
+use Rattle.kmipa_stream.specs.Counting.{TalliesSo}
+use Rattle.kmipa_stream.specs.declared.tally.Tally.{Tally}
+use Rattle.kmipa_runs.specs.Lines.{line, tally_text, PrintsFault}
 use Rattle.kmipa_runs.specs.declared.searched.Looked.{Looked}
 use Rattle.kmipa_runs.specs.declared.searched.Searched.{Searched}
 use Rattle.kmipa_runs.specs.declared.status.Status.{Status}
@@ -35,19 +37,26 @@ abbrev pub found_text : Found → List ℕ
 found_text (Yes witness count) = line (codes "yes: " ∷ decimal count ∷ codes " steps" ∷ [])
 found_text (GaveUp count) = line (codes "gave up: " ∷ decimal count ∷ codes " steps" ∷ [])
 found_text (Refuted count object) = line (codes "gave up: " ∷ decimal count ∷ codes " steps" ∷ [])
+found_text (Impossible count number) = line (codes "gave up: " ∷ decimal count ∷ codes " steps" ∷ [])
 found_text (OutOfTime count after) = line (codes "gave up: " ∷ decimal count ∷ codes " steps" ∷ [])
 
 abbrev pub found_status : Found → Status
 found_status (Yes witness count) = status.Done
 found_status (GaveUp count) = status.GaveUp
 found_status (Refuted count object) = status.GaveUp
+found_status (Impossible count number) = status.GaveUp
 found_status (OutOfTime count after) = status.GaveUp
+
+-- the lines of a search
+abbrev pub searched_text : Searched → List ℕ
+searched_text searched = forced_text searched.forced ++ (found_text searched.found ++ tally_text searched.tally)
 
 -- what is made of it: a file of the witness, or nothing
 abbrev pub Makes : Found → List ℕ → Type 0
 Makes (Yes witness count) made = IsWitness made (witness_of witness)
 Makes (GaveUp count) made = made ≡ []
 Makes (Refuted count object) made = made ≡ []
+Makes (Impossible count number) made = made ≡ []
 Makes (OutOfTime count after) made = made ≡ []
 
 -- ---- what is searched
@@ -58,6 +67,14 @@ IsForcedTold marks true (Some forced) = TellsForced marks (Ok forced)
 IsForcedTold marks true None = ⊥
 IsForcedTold marks false reported = reported ≡ None
 
+-- what became of the items by the witness that was found; of nothing else anything is told
+abbrev pub TalliesFound : List MarkOf → DeclarationOf → Found → Option Tally → Type 0
+TalliesFound marks declared (Yes witness count) tally = TalliesSo marks declared (witness_of witness) tally
+TalliesFound marks declared (GaveUp count) tally = tally ≡ None
+TalliesFound marks declared (Refuted count object) tally = tally ≡ None
+TalliesFound marks declared (Impossible count number) tally = tally ≡ None
+TalliesFound marks declared (OutOfTime count after) tally = tally ≡ None
+
 -- a search of these records found this, in so many seconds or in all the time that it took
 pub record AreSearched (searched : Searched) (t d : List ℕ) (seconds budget : ℕ) (asked : Bool) : Type 0 where
   pub marks : List MarkOf
@@ -66,6 +83,7 @@ pub record AreSearched (searched : Searched) (t d : List ℕ) (seconds budget : 
   pub declaration : IsDeclaration d declared
   pub forced : IsForcedTold marks asked searched.forced
   pub found : FindsIn seconds marks declared budget searched.found
+  pub tallied : TalliesFound marks declared searched.found searched.tally
 
 -- a message of the transcript is the first outside, or memory ran out
 abbrev pub SearchStops : List MarkOf → CheckFault → Type 0
@@ -76,6 +94,7 @@ SearchStops marks check.Memory = Unit {0}
 -- what a search of records answers
 abbrev pub SearchesRecords : List MarkOf → DeclarationOf → ℕ → ℕ → Bool → Result Searched CheckFault → Type 0
 SearchesRecords marks declared seconds budget asked (Ok searched) = IsForcedTold marks asked searched.forced × FindsIn seconds marks declared budget searched.found
+    × TalliesFound marks declared searched.found searched.tally
 SearchesRecords marks declared seconds budget asked (Err fault) = SearchStops marks fault
 
 -- and what is reported first
@@ -112,6 +131,5 @@ searched_alone (Err fault) = Err fault
 
 -- What is made and printed of it at a status. A fault prints its own line alone, and makes nothing.
 abbrev pub PrintsSearch : Result Searched AuditFault → Status → List ℕ → List ℕ → Type 0
-PrintsSearch (Ok searched) said lines made = (said ≡ found_status searched.found) × (lines ≡ forced_text searched.forced ++ found_text searched.found)
-    × Makes searched.found made
+PrintsSearch (Ok searched) said lines made = (said ≡ found_status searched.found) × (lines ≡ searched_text searched) × Makes searched.found made
 PrintsSearch (Err fault) said lines made = PrintsFault fault said lines × (made ≡ [])

@@ -32,7 +32,7 @@ pub use answered::Answered;
 pub use dates::date_text;
 pub use known::read_known_records;
 pub use laws::items_have_no_fault;
-pub use lines::{Lines, fault_lines, message_name, verdict_lines};
+pub use lines::{Lines, fault_lines, message_name, verdict_lines, yes_text};
 pub use notes::{
     algorithm_name, name_type_name, number_name, object_type_name, operation_name,
     result_reason_name,

@@ -1,14 +1,16 @@
 //! The lines that tell a verdict or a fault.
 
 ghost use Rattle.std.specs.Prelude.{◌≡◌, IfOk, string_bytes};
+ghost use Rattle.kmipa_record.specs.Declarations.{declaration_of};
 ghost use Rattle.kmipa_record.specs.Transcripts.{transcript_of};
 ghost use Rattle.kmipa_record.specs.Witnesses.{witness_of};
-ghost use Rattle.kmipa_runs.specs.Lines.{PrintsVerdict, PrintsStamped, PrintsDate, PrintsFault, no_line, record_text, record_status, check_text, check_status, side_name};
+ghost use Rattle.kmipa_runs.specs.Lines.{PrintsVerdict, PrintsStamped, PrintsDate, PrintsFault, no_line, record_text, record_status, check_text, check_status, side_name, tally_line, tally_text, yes_text};
 
 use crate::dates::date_text;
 use crate::status::Status;
 use kmipa_check::{AuditFault, CheckFault, Refused, Side, Verdict, stamp_of};
-use kmipa_record::{RecordFault, RecordKind, Transcript, Witness};
+use kmipa_record::{Declaration, RecordFault, RecordKind, Transcript, Witness};
+use kmipa_stream::{Tally, tally_of_records};
 use std::alloc::{AllocError, Global};
 
 /// Whole lines, each ended by a line feed, and the status that goes with them.
@@ -18,37 +20,42 @@ pub struct Lines {
     pub status: Status,
 }
 
-/// The lines of a verdict on this transcript and this witness.
+/// The lines of a verdict on this transcript and this witness, by this declaration.
 pub fn verdict_lines(
     alloc: Global,
     verdict: &Verdict,
     transcript: &Transcript,
+    declaration: &Declaration,
     witness: &Witness,
 ) -> Result<Lines, AllocError>
     ensures { IfOk result
-        (λ lines. PrintsVerdict (transcript_of transcript.now) (witness_of witness.now) verdict.now lines.status
-        (string_bytes lines.text)) }
+        (λ lines. PrintsVerdict (transcript_of transcript.now) (declaration_of declaration.now)
+        (witness_of witness.now) verdict.now lines.status (string_bytes lines.text)) }
 {
     match verdict {
-        Verdict::Yes => stamped_lines(alloc, verdict, None),
+        Verdict::Yes => {
+            let tally = tally_of_records(alloc, transcript, declaration, &witness.turns)?;
+            stamped_lines(alloc, verdict, None, tally)
+        }
         Verdict::No(refused) => {
             let stamp = stamp_of(alloc, transcript, witness, refused.call)?;
-            stamped_lines(alloc, verdict, stamp)
+            stamped_lines(alloc, verdict, stamp, None)
         }
     }
 }
 
-/// The lines of a verdict; behind that of a no the date of this moment.
+/// The lines of a verdict; behind that of a yes what became of the items, and behind that of a no the date of this moment.
 pub fn stamped_lines(
     alloc: Global,
     verdict: &Verdict,
     stamp: Option<i64>,
+    tally: Option<Tally>,
 ) -> Result<Lines, AllocError>
-    ensures { IfOk result (λ lines. PrintsStamped verdict.now stamp lines.status (string_bytes lines.text)) }
+    ensures { IfOk result (λ lines. PrintsStamped verdict.now stamp tally lines.status (string_bytes lines.text)) }
 {
     match verdict {
         Verdict::Yes => Ok(Lines {
-            text: String::from_str(alloc, "yes\n")?,
+            text: yes_text(alloc, tally)?,
             status: Status::Done,
         }),
         Verdict::No(refused) => {
@@ -60,6 +67,34 @@ pub fn stamped_lines(
             })
         }
     }
+}
+
+/// The lines of a yes.
+pub fn yes_text(alloc: Global, tally: Option<Tally>) -> Result<String, AllocError>
+    ensures { IfOk result (λ text. string_bytes text ≡ yes_text tally) }
+{
+    let told = tally_text(alloc, tally)?;
+    format!(in alloc; "yes\n{told}")
+}
+
+/// The line of what became of the items, where that is told.
+pub fn tally_text(alloc: Global, tally: Option<Tally>) -> Result<String, AllocError>
+    ensures { IfOk result (λ text. string_bytes text ≡ tally_text tally) }
+{
+    match tally {
+        None => Ok(String::new(alloc)),
+        Some(tally) => tally_line(alloc, tally),
+    }
+}
+
+fn tally_line(alloc: Global, tally: Tally) -> Result<String, AllocError>
+    ensures { IfOk result (λ text. string_bytes text ≡ tally_line tally) }
+{
+    let items = tally.items();
+    let Tally { judged, by_request } = tally;
+    format!(in alloc;
+        "judged: {judged} of {items} items; set aside: {by_request} by request, 0 by answer, 0 by witness, 0 by object\n"
+    )
 }
 
 fn no_text(alloc: Global, refused: &Refused) -> Result<String, AllocError>

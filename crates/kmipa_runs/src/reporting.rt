@@ -2,6 +2,7 @@
 
 ghost use Rattle.std.specs.Prelude.{◌≡◌, ◌⊎◌, IsOkAnd, string_bytes};
 ghost use Rattle.std.specs.Io.{StartsWith, appended_bytes};
+ghost use Rattle.kmipa_record.specs.Declarations.{declaration_of};
 ghost use Rattle.kmipa_record.specs.Transcripts.{transcript_of};
 ghost use Rattle.kmipa_record.specs.Witnesses.{witness_of};
 ghost use Rattle.kmipa_runs.specs.Statuses.{IsSilent};
@@ -10,35 +11,42 @@ ghost use Rattle.kmipa_runs.specs.Lines.{PrintsStamped, PrintsVerdict};
 use crate::lines::{Lines, stamped_lines, verdict_lines};
 use crate::status::Status;
 use kmipa_check::Verdict;
-use kmipa_record::{Transcript, Witness};
+use kmipa_record::{Declaration, Transcript, Witness};
 use kmipa_stream::Judged;
 use std::alloc::{AllocError, Global};
 
-/// Appends the lines of a verdict on this transcript and this witness, and answers their status. Where memory runs out nothing is
+/// Appends the lines of a verdict on this transcript and this witness, by this declaration, and answers their status. Where memory runs out nothing is
 /// appended, and the status is `Failed`.
 pub fn report(
     alloc: Global,
     verdict: &Verdict,
     transcript: &Transcript,
+    declaration: &Declaration,
     witness: &Witness,
     out: &mut Vec<u8>,
 ) -> Status
-    ensures prints { PrintsVerdict (transcript_of transcript.now) (witness_of witness.now) verdict.now result
-        (appended_bytes out.old.items out.new.items)
+    ensures prints { PrintsVerdict (transcript_of transcript.now) (declaration_of declaration.now)
+        (witness_of witness.now) verdict.now result (appended_bytes out.old.items out.new.items)
         ⊎ IsSilent result (appended_bytes out.old.items out.new.items) }
     ensures appends { StartsWith out.new.items out.old.items }
 {
-    append(verdict_lines(alloc, verdict, transcript, witness), out)
+    append(
+        verdict_lines(alloc, verdict, transcript, declaration, witness),
+        out,
+    )
 }
 
-/// The same of a verdict that comes with the moment at which the call was answered that it refuses.
+/// The same of a verdict that comes with the moment at which the call was answered that it refuses, or with what became of the items.
 pub fn report_judged(alloc: Global, judged: &Judged, out: &mut Vec<u8>) -> Status
-    ensures prints { PrintsStamped judged.now.verdict judged.now.stamp result
+    ensures prints { PrintsStamped judged.now.verdict judged.now.stamp judged.now.tally result
         (appended_bytes out.old.items out.new.items)
         ⊎ IsSilent result (appended_bytes out.old.items out.new.items) }
     ensures appends { StartsWith out.new.items out.old.items }
 {
-    append(stamped_lines(alloc, &judged.verdict, judged.stamp), out)
+    append(
+        stamped_lines(alloc, &judged.verdict, judged.stamp, judged.tally),
+        out,
+    )
 }
 
 /// Appends lines, all or, where memory runs out, none.

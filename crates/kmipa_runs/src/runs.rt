@@ -5,7 +5,7 @@ ghost use Rattle.std.specs.Io.{StartsWith, appended_bytes};
 ghost use Rattle.kmipa_ttlv.specs.Input.{came_of, is_ended, is_failed, IsFileOf};
 ghost use Rattle.kmipa_runs.specs.Knowing.{KnowsSeals};
 ghost use Rattle.kmipa_runs.specs.Statuses.{IsSilent};
-ghost use Rattle.kmipa_runs.specs.Lines.{FitsStatus, IsDated, PrintsOutcome, SaysYes, yes_line};
+ghost use Rattle.kmipa_runs.specs.Lines.{AreYesLines, FitsStatus, IsDated, PrintsOutcome, SaysYes};
 ghost use Rattle.kmipa_check.specs.Audits.{AreAccepted, AuditsAs};
 
 use crate::answered::Answered;
@@ -34,12 +34,12 @@ pub fn check_run<R: Read>(
     ensures prints { (outcome : Result Verdict AuditFault)
         × ((t d w : List ℕ) → IsFileOf t transcript.new → IsFileOf d declaration.new → IsFileOf w witness.new
         → AuditsAs t d w (is_failed transcript.new) (is_failed declaration.new) (is_failed witness.new) outcome)
-        × (PrintsOutcome (came_of transcript.new) (came_of witness.new) outcome result.status
-        (appended_bytes out.old.items out.new.items)
+        × (PrintsOutcome (came_of transcript.new) (came_of declaration.new) (came_of witness.new) outcome
+        result.status (appended_bytes out.old.items out.new.items)
         ⊎ IsSilent result.status (appended_bytes out.old.items out.new.items)) }
     // `yes` is printed with status 0, and there alone.
     ensures fits { FitsStatus result.status (appended_bytes out.old.items out.new.items) }
-    ensures yes { (result.status ≡ Status.Done) ↔ (appended_bytes out.old.items out.new.items ≡ yes_line) }
+    ensures yes { (result.status ≡ Status.Done) ↔ AreYesLines (appended_bytes out.old.items out.new.items) }
     ensures appends { StartsWith out.new.items out.old.items }
     // Status 0 is answered only where the bytes that came, to the ends that were seen, are accepted.
     ensures accepts { result.status ≡ Status.Done

@@ -1,21 +1,21 @@
 //! `search`: a witness of a transcript and a declaration.
 
-ghost use Rattle.std.specs.Prelude.{◌≡◌, ◌≢◌, ◌⊎◌, ◌++◌, ℕ, List, [], All, IsTrue, IfOk, OnOk, Result, Ok, Err, map, string_bytes};
+ghost use Rattle.std.specs.Prelude.{◌≡◌, ◌≢◌, ◌⊎◌, ℕ, List, [], Bool, All, IsTrue, IfOk, MatchResult, OnOk, Result, Ok, Err, map, string_bytes};
 ghost use Rattle.std.specs.Io.{StartsWith, appended_bytes};
 ghost use Rattle.kmipa_ttlv.specs.Input.{came_of, is_ended, is_failed, IsFileOf};
 ghost use Rattle.kmipa_record.specs.Declarations.{AreDeclared, declaration_of};
-ghost use Rattle.kmipa_record.specs.Marks.{AreRecorded};
+ghost use Rattle.kmipa_record.specs.Marks.{AreRecorded, MarkOf};
 ghost use Rattle.kmipa_record.specs.Transcripts.{transcript_of};
 ghost use Rattle.kmipa_record.specs.Witnesses.{witness_of, IsWitness};
 ghost use Rattle.kmipa_check.specs.Audits.{AreAccepted};
 ghost use Rattle.kmipa_check.specs.Calls.{AreCalls, IsRecorded, call_of};
 ghost use Rattle.kmipa_search.specs.Found.{SearchesIn};
 ghost use Rattle.kmipa_runs.specs.Knowing.{Known, KnowsSeals};
-ghost use Rattle.kmipa_runs.specs.Searches.{found_status, found_text, forced_text, PrintsSearch, SearchesFiles, SearchesRecords, TellsIfForced, searched_alone};
+ghost use Rattle.kmipa_runs.specs.Searches.{found_status, found_text, forced_text, IsForcedTold, PrintsSearch, SearchesFiles, SearchesRecords, TalliesFound, TellsIfForced, searched_alone, searched_text};
 ghost use Rattle.kmipa_runs.specs.Statuses.{IsSilent};
 
 use crate::answered::Answered;
-use crate::lines::{Lines, fault_lines};
+use crate::lines::{Lines, fault_lines, tally_text};
 use crate::reporting::append;
 use crate::searched::{Looked, Searched};
 use crate::status::Status;
@@ -24,6 +24,7 @@ use kmipa_record::{
     Declaration, Transcript, Witness, read_declaration, read_transcript, write_witness,
 };
 use kmipa_search::{Found, Watch, is_forced, search_calls, search_open_calls};
+use kmipa_stream::{Tally, tally_of_turns};
 use kmipa_ttlv::Input;
 use std::alloc::{AllocError, Global};
 use std::io::Read;
@@ -132,13 +133,19 @@ fn search_at_last<W: Watch>(
 {
     let forced = if_forced(alloc, &transcript, asked)?;
     let calls = read_calls(alloc, &transcript)?;
-    let found = search_as_asked(alloc, &transcript, declaration, &calls, budget, open, watch);
+    let searched = search_read(
+        alloc,
+        &transcript,
+        declaration,
+        &calls,
+        forced,
+        budget,
+        open,
+        watch,
+    );
     forget(calls);
     forget(transcript);
-    match found {
-        Ok(found) => Ok(Searched { forced, found }),
-        Err(fault) => Err(fault),
-    }
+    searched
 }
 
 /// Searches the records.
@@ -158,8 +165,69 @@ pub fn search_records<W: Watch>(
 {
     let forced = if_forced(alloc, transcript, forced)?;
     let calls = read_calls(alloc, transcript)?;
-    let found = search_as_asked(alloc, transcript, declaration, &calls, budget, open, watch)?;
-    Ok(Searched { forced, found })
+    search_read(
+        alloc,
+        transcript,
+        declaration,
+        &calls,
+        forced,
+        budget,
+        open,
+        watch,
+    )
+}
+
+/// Searches calls that were read of the transcript, of which this is told, and says what became of the items by the witness that is found.
+fn search_read<W: Watch>(
+    alloc: Global,
+    transcript: &Transcript,
+    declaration: &Declaration,
+    calls: &[Call],
+    forced: Option<bool>,
+    budget: u64,
+    open: bool,
+    watch: &mut W,
+) -> Result<Searched, CheckFault>
+    requires declared { AreDeclared (declaration_of declaration.now) }
+    requires each { All (IsRecorded (transcript_of transcript.now)) (map call_of calls.now) }
+    ensures { (asked : Bool) → AreRecorded (transcript_of transcript.now)
+        → AreCalls (transcript_of transcript.now) (map call_of calls.now)
+        → IsForcedTold (transcript_of transcript.now) asked forced
+        → SearchesRecords (transcript_of transcript.now) (declaration_of declaration.now)
+        (W.seconds watch.old) budget asked result }
+{
+    let found = search_as_asked(alloc, transcript, declaration, calls, budget, open, watch)?;
+    let tally = tally_of_found(alloc, declaration, calls, &found)?;
+    Ok(Searched {
+        forced,
+        found,
+        tally,
+    })
+}
+
+/// What became of the items by the witness that was found, if one was.
+fn tally_of_found(
+    alloc: Global,
+    declaration: &Declaration,
+    calls: &[Call],
+    found: &Found,
+) -> Result<Option<Tally>, CheckFault>
+    ensures { (marks : List MarkOf) → AreRecorded marks → AreCalls marks (map call_of calls.now)
+        → MatchResult result (TalliesFound marks (declaration_of declaration.now) found.now)
+        (λ fault. fault ≡ CheckFault.Memory) }
+{
+    match found {
+        Found::Yes(witness, _) => {
+            match tally_of_turns(alloc, declaration, calls, &witness.turns) {
+                Ok(tally) => Ok(tally),
+                Err(_) => Err(CheckFault::Memory),
+            }
+        }
+        Found::GaveUp(_) => Ok(None),
+        Found::Refuted(_, _) => Ok(None),
+        Found::Impossible(_, _) => Ok(None),
+        Found::OutOfTime(_, _) => Ok(None),
+    }
 }
 
 /// Looks for a witness of calls that were read of the transcript, with `open` of those without an end mark too.
@@ -224,6 +292,7 @@ pub fn tell_searched(
         Found::Yes(witness, _) => tell_witness(alloc, witness, &lines, out, made),
         Found::GaveUp(_) => append(Ok(lines), out),
         Found::Refuted(_, _) => append(Ok(lines), out),
+        Found::Impossible(_, _) => append(Ok(lines), out),
         Found::OutOfTime(_, _) => append(Ok(lines), out),
     }
 }
@@ -254,14 +323,16 @@ pub fn tell_witness(
     lines.status
 }
 
-/// The lines of what a search found, and before them whether the transcript is forced, where that was asked for.
+/// The lines of what a search found, before them whether the transcript is forced, where that was asked for, and behind them what became of
+/// the items, where that is told.
 pub fn searched_lines(alloc: Global, searched: &Searched) -> Result<Lines, AllocError>
     ensures { IfOk result (λ lines. (lines.status ≡ found_status searched.now.found)
-        × (string_bytes lines.text ≡ forced_text searched.now.forced ++ found_text searched.now.found)) }
+        × (string_bytes lines.text ≡ searched_text searched.now)) }
 {
     let Lines { text, status } = found_lines(alloc, &searched.found)?;
     let first = forced_line(searched.forced);
-    let text = format!(in alloc; "{first}{text}")?;
+    let last = tally_text(alloc, searched.tally)?;
+    let text = format!(in alloc; "{first}{text}{last}")?;
     Ok(Lines { text, status })
 }
 
@@ -287,6 +358,7 @@ fn found_lines(alloc: Global, found: &Found) -> Result<Lines, AllocError>
         }),
         Found::GaveUp(count) => gave_up_line(alloc, *count),
         Found::Refuted(count, _) => gave_up_line(alloc, *count),
+        Found::Impossible(count, _) => gave_up_line(alloc, *count),
         Found::OutOfTime(count, _) => gave_up_line(alloc, *count),
     }
 }

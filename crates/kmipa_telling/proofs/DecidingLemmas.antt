@@ -19,7 +19,7 @@ use Rattle.kmipa_search.specs.Found.{Finds, FindsIn, HasDecided, stopped, enough
 use Rattle.kmipa_search.specs.Plain.{ArePlain, IsForced}
 use Rattle.kmipa_search.specs.declared.found.Found.{Found}
 use Rattle.kmipa_search.specs.Reached.{HaveSteps, TellsReached}
-use Rattle.kmipa_search.specs.declared.found.Found.TheVariants.{GaveUp, Refuted, OutOfTime}
+use Rattle.kmipa_search.specs.declared.found.Found.TheVariants.{GaveUp, Refuted, Impossible, OutOfTime}
 use Rattle.kmipa_search.specs.declared.stuck.Reached.{Reached}
 use Rattle.kmipa_runs.specs.Searches.{SearchStops, SearchesRecords}
 use Rattle.kmipa_runs.specs.declared.searched.Searched.{Searched}
@@ -81,9 +81,11 @@ all_plain (c ∷ calls) numbers none (inr p) = let clash : c.number ∷ p.1.0 �
 decided_said : (g : GrantsOf) (calls : List CallOf) (budget count : ℕ) (said : Decision) → IsDecidedUnder g said → HasDecided calls budget count → IsSaid g calls budget count said
 decided_said g calls budget count decision.Decided under decided = (decided, under)
 decided_said g calls budget count (decision.Tolerant seconds) under decided = (decided, under)
+decided_said g calls budget count decision.Births under decided = (decided, under)
 decided_said g calls budget count (decision.UsedUp steps) under decided = absurd under
 decided_said g calls budget count (decision.NotPlain numbers) under decided = absurd under
 decided_said g calls budget count (decision.OneObject object) under decided = absurd under
+decided_said g calls budget count decision.Impossible under decided = absurd under
 decided_said g calls budget count (decision.OutOfTime seconds) under decided = absurd under
 
 module _ (marks : List MarkOf) (g : GrantsOf) (calls : List CallOf) (budget count : ℕ) (are : AreCalls marks calls) (plain : (steps : List StepOf) × ArePlain calls steps) where
@@ -108,6 +110,9 @@ decided_have_steps marks g budget count tells = (tells.0, tells.1, decided_steps
 
 pub tolerant_have_steps : (marks : List MarkOf) (g : GrantsOf) (budget count : ℕ) (seconds : ℤ) → TellsDecision marks g budget count (Ok (decision.Tolerant seconds)) → HaveSteps marks
 tolerant_have_steps marks g budget count seconds tells = (tells.0, tells.1, decided_steps tells.0 budget count tells.2.0)
+
+pub births_have_steps : (marks : List MarkOf) (g : GrantsOf) (budget count : ℕ) → TellsDecision marks g budget count (Ok decision.Births) → HaveSteps marks
+births_have_steps marks g budget count tells = (tells.0, tells.1, decided_steps tells.0 budget count tells.2.0)
 
 pub spent_have_steps : (marks : List MarkOf) (g : GrantsOf) (budget count steps : ℕ) → TellsDecision marks g budget count (Ok (decision.UsedUp steps)) → HaveSteps marks
 spent_have_steps marks g budget count steps tells = (tells.0, tells.1, tells.2.0)
@@ -159,6 +164,8 @@ plain_place marks declared budget count decision.Decided (Some reached) recorded
 plain_place marks declared budget count decision.Decided None recorded tells p = absurd (p tt)
 plain_place marks declared budget count (decision.Tolerant seconds) (Some reached) recorded tells p = (tolerant_have_steps marks (grants_declared declared) budget count seconds tells, p.1)
 plain_place marks declared budget count (decision.Tolerant seconds) None recorded tells p = absurd (p tt)
+plain_place marks declared budget count decision.Births (Some reached) recorded tells p = (births_have_steps marks (grants_declared declared) budget count tells, p.1)
+plain_place marks declared budget count decision.Births None recorded tells p = absurd (p tt)
 plain_place marks declared budget count (decision.UsedUp steps) (Some reached) recorded tells p = (spent_have_steps marks (grants_declared declared) budget count steps tells, p.1)
 plain_place marks declared budget count (decision.UsedUp steps) None recorded tells p = absurd (p tt)
 plain_place marks declared budget count (decision.NotPlain numbers) (Some reached) recorded tells p = absurd p.0
@@ -166,6 +173,7 @@ plain_place marks declared budget count (decision.NotPlain numbers) None recorde
     let P : List CallOf → Type 0 = λ cs. ArePlain cs have.2.0 in
     tells.2.1 (no_unplain tells.0 have.2.0 numbers.items (subst P (same_calls marks have.0 tells.0 recorded have.1 tells.1) have.2.1) tells.2.0)
 plain_place marks declared budget count (decision.OneObject other) place recorded tells p = absurd tells.2
+plain_place marks declared budget count decision.Impossible place recorded tells p = absurd tells.2
 plain_place marks declared budget count (decision.OutOfTime seconds) place recorded tells p = absurd tells.2
 
 object_place : (marks : List MarkOf) (declared : DeclarationOf) (object : String Global) (place : Option Reached) → TellsPlainPlace marks declared place
@@ -186,6 +194,19 @@ refuted_told marks declared seconds budget asked searched searches count object 
     let F : Found → Type 0 = λ f. FindsIn seconds marks declared budget f in
     let T : Found → Type 0 = λ f. TellsGivingUp marks declared budget f (Some (decision.OneObject named)) in
     (searches, subst T (sym is) (copied, (subst F is searches.1).2), object_place marks declared named place (plain_place marks declared budget count said place recorded tells stuck))
+
+call_place : (marks : List MarkOf) (declared : DeclarationOf) (place : Option Reached) → TellsPlainPlace marks declared place → TellsPlace marks declared (Some decision.Impossible) place
+call_place marks declared (Some reached) p = p
+call_place marks declared None p = p
+
+pub impossible_told : (marks : List MarkOf) (declared : DeclarationOf) (seconds budget : ℕ) (asked : Bool) (searched : Searched) → SearchesRecords marks declared seconds budget asked (Ok searched)
+    → (count call : ℕ) (said : Decision) (place : Option Reached) → AreRecorded marks → searched.found ≡ Impossible count call
+    → TellsDecision marks (grants_declared declared) budget count (Ok said) → TellsPlace marks declared (Some said) place
+    → DecidesRecords marks declared seconds budget asked (Ok (record { searched = searched; decision = Some decision.Impossible; reached = place }))
+impossible_told marks declared seconds budget asked searched searches count call said place recorded is tells stuck =
+    let F : Found → Type 0 = λ f. FindsIn seconds marks declared budget f in
+    let T : Found → Type 0 = λ f. TellsGivingUp marks declared budget f (Some decision.Impossible) in
+    (searches, subst T (sym is) (refl, (subst F is searches.1).2), call_place marks declared place (plain_place marks declared budget count said place recorded tells stuck))
 
 -- ---- the seconds of a search
 

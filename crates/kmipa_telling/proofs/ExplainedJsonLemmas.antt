@@ -6,6 +6,7 @@ use Rattle.kmipa_ttlv.specs.Input.{came_of}
 use Rattle.kmipa_ttlv.specs.declared.input.Input.{Input}
 use Rattle.kmipa_ttlv.proofs.ReadLemmas.{itself}
 use Rattle.kmipa_record.specs.Marks.{MarkOf}
+use Rattle.kmipa_record.specs.Declarations.{DeclarationOf, declaration_of}
 use Rattle.kmipa_record.specs.Transcripts.{transcript_of}
 use Rattle.kmipa_record.specs.Witnesses.{TurnOf, witness_of}
 use Rattle.kmipa_check.specs.Audits.{AreAccepted, ReadingFails}
@@ -46,10 +47,10 @@ where_unread fact t d w ft fd fw (audit.Check f) told = absurd told
 
 -- ---- status 0
 
-told_yes : (marks : List MarkOf) (turns : List TurnOf) (v : Verdict) (said : Status) (before after : Members) → TellsVerdict marks turns v said before after
+told_yes : (marks : List MarkOf) (declared : DeclarationOf) (turns : List TurnOf) (v : Verdict) (said : Status) (before after : Members) → TellsVerdict marks declared turns v said before after
     → said ≡ status.Done → v ≡ verdict.Yes
-told_yes marks turns verdict.Yes said before after tells done = refl
-told_yes marks turns (verdict.No r) said before after tells done = let clash : status.No ≡ status.Done = sym tells.0 ∙ done in absurd cc
+told_yes marks declared turns verdict.Yes said before after tells done = refl
+told_yes marks declared turns (verdict.No r) said before after tells done = let clash : status.No ≡ status.Done = sym tells.0 ∙ done in absurd cc
 
 -- what is printed of what a check with explanations answers
 abbrev pub ToldCheck : {R : Type 0} → Option ℕ → Input R → Input R → Input R → Status → List ℕ → Type 0
@@ -58,7 +59,7 @@ ToldCheck torn t d w said lines = (outcome : Result Explained FaultTold) × Expl
 explained_done : {R : Type 0} (torn : Option ℕ) (t d w : Input R) (outcome : Result Explained FaultTold) (said : Status) (lines : List ℕ) → ExplainsInputs t d w outcome
     → PrintsExplainedJson torn t d w outcome said lines → said ≡ status.Done → AreAccepted (came_of t) (came_of d) (came_of w) × AreEnded t d w
 explained_done torn t d w (Ok explained) said lines audits (known, told, knows, (verdict, tells, more), is) done =
-    let yes = told_yes (transcript_of explained.records.transcript) (witness_of explained.records.witness) explained.verdict said _ verdict tells done in (
+    let yes = told_yes (transcript_of explained.records.transcript) (declaration_of explained.records.declaration) (witness_of explained.records.witness) explained.verdict said _ verdict tells done in (
       yes_explained (came_of t) (came_of d) (came_of w) explained explained.verdict refl yes
           (audits.0 (came_of t) (came_of d) (came_of w) (itself t) (itself d) (itself w)),
       audits.1,

@@ -7,8 +7,6 @@ use Rattle.kmipa_record.specs.Marks.{MarkOf}
 use Rattle.kmipa_record.specs.Declarations.{DeclarationOf, declaration_of}
 use Rattle.kmipa_record.specs.Transcripts.{transcript_of}
 use Rattle.kmipa_record.specs.Witnesses.{TurnOf, witness_of}
-use Rattle.kmipa_record.specs.declared.fault.RecordKind.{RecordKind}
-use Rattle.kmipa_record.specs.declared.fault.RecordKind.TheVariants.{Ttlv, Device, Memory}
 use Rattle.std.proofs.lemmas.List.{append-nil}
 use Rattle.kmipa_check.specs.Audits.{AreAccepted, AreRecords, AreUnjudged, AuditFails, ReadingFails}
 use Rattle.kmipa_check.specs.Grants.{GrantsOf, grants_declared}
@@ -22,12 +20,12 @@ use Rattle.kmipa_check.specs.declared.auditing.AuditRecords.{AuditRecords}
 use Rattle.kmipa_check.specs.declared.verdict.Verdict.{Verdict}
 use Rattle.kmipa_check.specs.declared.verdict.Verdict.TheVariants as verdict
 use Rattle.kmipa_explain.specs.declared.explanation.Explanation.{Explanation}
-use Rattle.kmipa_runs.specs.Lines.{FitsStatus, PrintsFault, PrintsVerdict, check_status, check_text, device_line, record_status, record_text, yes_line}
+use Rattle.kmipa_runs.specs.Lines.{FitsStatus, PrintsFault, PrintsVerdict, check_status, check_text}
 use Rattle.kmipa_runs.specs.Statuses.{IsSilent}
 use Rattle.kmipa_runs.specs.declared.lines.Lines.{Lines}
 use Rattle.kmipa_runs.specs.declared.status.Status.{Status}
 use Rattle.kmipa_runs.specs.declared.status.Status.TheVariants as status
-use Rattle.kmipa_runs.proofs.LineLemmas.{done_is_yes}
+use Rattle.kmipa_runs.proofs.LineLemmas.{done_is_yes, record_fits}
 use Rattle.kmipa_telling.specs.Explaining.{AreExplained, AuditsExplained, IsExplained, PrintsExplained, PrintsMore, TellsRecords}
 use Rattle.kmipa_telling.specs.FaultsTold.{IsAuditMeaning, IsCheckFaultOf, IsCheckMeaning, IsCheckToldOf, IsFaultOf, IsFaultToldOf, PrintsFaultMeaning, bare_fault}
 use Rattle.kmipa_telling.specs.declared.explained.Explained.{Explained}
@@ -58,7 +56,7 @@ pub done_accepted : (t d w : List ℕ) (ft fd fw : Bool) (outcome : Result Expla
 done_accepted t d w ft fd fw outcome said lines audits (inr silent) done = let clash : status.Failed ≡ status.Done = sym silent.0 ∙ done in absurd cc
 done_accepted t d w ft fd fw (Err told) said lines audits (inl (front, more, prints, outside, e)) done = absurd (fault_not_done told.fault (sym prints.0 ∙ done))
 done_accepted t d w ft fd fw (Ok explained) said lines audits (inl prints) done =
-    let yes = done_is_yes (transcript_of explained.records.transcript) (witness_of explained.records.witness) explained.verdict said prints.0 (inl prints.2) done in
+    let yes = done_is_yes (transcript_of explained.records.transcript) (declaration_of explained.records.declaration) (witness_of explained.records.witness) explained.verdict said prints.0 (inl prints.2) done in
     yes_explained t d w explained explained.verdict refl yes audits
 
 -- ---- what is appended
@@ -75,50 +73,27 @@ explained_reported (Ok l) outcome said lines told (inl p) =
 
 -- ---- what stands on standard output
 
--- another line is none that begins so
-begins : (prefix lines : List ℕ) → lines ≡ yes_line → StartsWith lines prefix → (StartsWith yes_line prefix → ⊥) → ⊥
-begins prefix lines e is none = none (ap (take (length prefix)) (sym e) ∙ is)
-
--- where `yes` stands alone the status is 0, and there alone
-pub yes_fits : (said : Status) (lines : List ℕ) → FitsStatus said lines → (said ≡ status.Done) ↔ (lines ≡ yes_line)
-yes_fits status.Done lines fits = (λ e. fits, λ e. refl)
-yes_fits status.No lines is = (λ e. absurd cc, λ e. absurd (begins (codes "no: turn ") lines e is (λ x. absurd cc)))
-yes_fits status.Refused lines (inl is) = (λ e. absurd cc, λ e. absurd (begins (codes "outside: call ") lines e is (λ x. absurd cc)))
-yes_fits status.Refused lines (inr (inl is)) = (λ e. absurd cc, λ e. absurd (begins (codes "witness: at ") lines e is (λ x. absurd cc)))
-yes_fits status.Refused lines (inr (inr is)) = (λ e. absurd cc, λ e. absurd (begins (codes "malformed: ") lines e is (λ x. absurd cc)))
-yes_fits status.Failed lines (inl is) = (λ e. absurd cc, λ e. let clash : yes_line ≡ device_line = sym e ∙ is in absurd cc)
-yes_fits status.Failed lines (inr is) = (λ e. absurd cc, λ e. let clash : yes_line ≡ [] = sym e ∙ is in absurd cc)
-yes_fits status.GaveUp lines fits = absurd fits
-yes_fits status.Usage lines fits = absurd fits
-
 -- the lines of a verdict, and behind those of a no what it means
-fits_at : (records : AuditRecords) (marks : List MarkOf) (turns : List TurnOf) (v : Verdict) (o : Option Explanation) (said : Status) (front more lines : List ℕ) → IsExplained records v o
-    → PrintsVerdict marks turns v said front → PrintsMore o more → lines ≡ front ++ more → FitsStatus said lines
-fits_at records marks turns verdict.Yes None said front more lines is prints none e =
+fits_at : (records : AuditRecords) (marks : List MarkOf) (declared : DeclarationOf) (turns : List TurnOf) (v : Verdict) (o : Option Explanation) (said : Status) (front more lines : List ℕ) → IsExplained records v o
+    → PrintsVerdict marks declared turns v said front → PrintsMore o more → lines ≡ front ++ more → FitsStatus said lines
+fits_at records marks declared turns verdict.Yes None said front more lines is prints none e =
     let P : Status → Type 0 = λ s. FitsStatus s lines in
-    subst P (sym prints.0) (e ∙ ap (λ (l : List ℕ). l ++ more) prints.1 ∙ ap (λ (l : List ℕ). yes_line ++ l) none)
-fits_at records marks turns verdict.Yes (Some x) said front more lines is prints none e = absurd is
-fits_at records marks turns (verdict.No r) o said front more lines is prints tells e =
+    subst P (sym prints.0) (prints.1.0, e ∙ ap (λ (l : List ℕ). front ++ l) none ∙ append-nil front ∙ prints.1.2)
+fits_at records marks declared turns verdict.Yes (Some x) said front more lines is prints none e = absurd is
+fits_at records marks declared turns (verdict.No r) o said front more lines is prints tells e =
     let P : Status → Type 0 = λ s. FitsStatus s lines in
     subst P (sym prints.0) (ap (take (length (codes "no: turn "))) (e ∙ ap (λ (l : List ℕ). l ++ more) prints.1.2.2))
 
 pub explained_fits : (explained : Explained) (t d w : List ℕ) (said : Status) (lines : List ℕ) → AreExplained explained t d w
     → PrintsExplained (Ok explained) said lines ⊎ IsSilent said lines → FitsStatus said lines
 explained_fits explained t d w said lines a (inl (front, more, prints, tells, e)) =
-    fits_at explained.records (transcript_of explained.records.transcript) (witness_of explained.records.witness) explained.verdict explained.explanation said front more lines
+    fits_at explained.records (transcript_of explained.records.transcript) (declaration_of explained.records.declaration) (witness_of explained.records.witness) explained.verdict explained.explanation said front more lines
     a.explained prints tells e
 explained_fits explained t d w said lines a (inr silent) =
     let P : Status → Type 0 = λ s. FitsStatus s lines in
     subst P (sym silent.0) (inr silent.1)
 
 -- ---- faults
-
--- the line of a fault of a file
-record_fits : (file : List ℕ) (offset : ℕ) (kind : RecordKind) → FitsStatus (record_status kind) (record_text file offset kind)
-record_fits file offset Device = inl refl
-record_fits file offset Memory = inr refl
-record_fits file offset (Ttlv flaw) = inr (inr refl)
-record_fits file offset _ = inr (inr refl)
 
 -- nothing stands behind it
 alone : (said place : Status) (text front more lines : List ℕ) → FitsStatus place text → said ≡ place → front ≡ text → more ≡ [] → lines ≡ front ++ more → FitsStatus said lines

@@ -19,7 +19,7 @@ use Rattle.kmipa_check.specs.declared.fault.CheckFault.{CheckFault}
 use Rattle.kmipa_check.specs.declared.fault.CheckFault.TheVariants as check
 use Rattle.kmipa_search.specs.Found.{FindsIn}
 use Rattle.kmipa_search.specs.declared.found.Found.{Found}
-use Rattle.kmipa_search.specs.declared.found.Found.TheVariants.{Yes, GaveUp, Refuted, OutOfTime}
+use Rattle.kmipa_search.specs.declared.found.Found.TheVariants.{Yes, GaveUp, Refuted, Impossible, OutOfTime}
 use Rattle.kmipa_runs.specs.Searches.{AreUnsearched, SearchFails, SearchStops, found_status, Makes}
 use Rattle.kmipa_runs.specs.Statuses.{IsSilent}
 use Rattle.kmipa_runs.specs.declared.lines.Lines.{Lines}
@@ -58,6 +58,7 @@ done_accepted judged t d seconds budget asked said made a is makes done = go jud
     go (GaveUp count) e = let clash : status.GaveUp ≡ status.Done = sym (ap found_status e) ∙ sym is ∙ done in absurd cc
     go (OutOfTime count after) e = let clash : status.GaveUp ≡ status.Done = sym (ap found_status e) ∙ sym is ∙ done in absurd cc
     go (Refuted count object) e = let clash : status.GaveUp ≡ status.Done = sym (ap found_status e) ∙ sym is ∙ done in absurd cc
+    go (Impossible count number) e = let clash : status.GaveUp ≡ status.Done = sym (ap found_status e) ∙ sym is ∙ done in absurd cc
     go (Yes witness count) e =
         let M : Found → Type 0 = λ f. Makes f made in
         let F : Found → Type 0 = λ f. FindsIn seconds a.marks a.declared budget f in

@@ -5,6 +5,7 @@ use Rattle.std.specs.declared.alloc.AllocError.{AllocError}
 use Rattle.kmipa_ttlv.specs.Input.{came_of}
 use Rattle.kmipa_ttlv.specs.declared.input.Input.{Input}
 use Rattle.kmipa_ttlv.proofs.ReadLemmas.{itself}
+use Rattle.kmipa_record.specs.Declarations.{declaration_of}
 use Rattle.kmipa_record.specs.Transcripts.{transcript_of}
 use Rattle.kmipa_record.specs.Witnesses.{witness_of}
 use Rattle.kmipa_record.specs.declared.fault.RecordKind.{RecordKind}
@@ -70,7 +71,7 @@ only_silent (inr silent) = silent
 -- ---- checks
 
 yes_told : (audited : Audited) (said : Status) (before after : Members) (v : Verdict) → audited.verdict ≡ v
-    → TellsVerdict (transcript_of audited.transcript) (witness_of audited.witness) v said before after → said ≡ status.Done → audited.verdict ≡ verdict.Yes
+    → TellsVerdict (transcript_of audited.transcript) (declaration_of audited.declaration) (witness_of audited.witness) v said before after → said ≡ status.Done → audited.verdict ≡ verdict.Yes
 yes_told audited said before after verdict.Yes is tells done = is
 yes_told audited said before after (verdict.No r) is tells done = let clash : status.No ≡ status.Done = sym tells.0 ∙ done in absurd cc
 

@@ -1,5 +1,5 @@
 -- What a search says by giving up: that no order explains the transcript, or nothing, and then why.
-use Rattle.std.specs.Prelude.{◌≡◌, ◌≢◌, ◌<◌, ◌≤◌, ◌⊎◌, ℕ, ℤ, List, [], ◌∷◌, length, Bool, Option, Some, None, Result, Ok, Err, String}
+use Rattle.std.specs.Prelude.{◌≡◌, ◌≢◌, ◌<◌, ◌≤◌, ◌⊎◌, ℕ, ℤ, pos, List, [], ◌∷◌, length, Bool, Option, Some, None, Result, Ok, Err, String}
 use Rattle.std.specs.String.{string_bytes}
 use Rattle.std.specs.declared.alloc.Global.{Global}
 use Rattle.kmipa_msgs.specs.Messages.{ResponseOf}
@@ -17,7 +17,7 @@ use Rattle.kmipa_search.specs.Found.{HasDecided}
 use Rattle.kmipa_search.specs.Plain.{ArePlain, IsForced}
 use Rattle.kmipa_search.specs.Reached.{HaveSteps, TellsReached}
 use Rattle.kmipa_search.specs.declared.found.Found.{Found}
-use Rattle.kmipa_search.specs.declared.found.Found.TheVariants.{Yes, GaveUp, Refuted, OutOfTime}
+use Rattle.kmipa_search.specs.declared.found.Found.TheVariants.{Yes, GaveUp, Refuted, Impossible, OutOfTime}
 use Rattle.kmipa_search.specs.declared.stuck.Reached.{Reached}
 use Rattle.kmipa_runs.specs.Searches.{SearchFails, SearchStops, SearchesRecords}
 use Rattle.kmipa_telling.specs.FaultsTold.{IsSearchMeaning}
@@ -40,25 +40,30 @@ AreUnplain (c ∷ calls) numbers = (IsPlain c × AreUnplain calls numbers)
 
 -- ---- what is said
 
--- each order was tried at the stamps: that is decided where moments are stamps; else it is said how far they may be from them
+-- each order was tried at the stamps, without births: that is decided where nothing else is granted; else it is said how far moments may be
+-- from stamps, or that the server itself may give attributes at birth
 abbrev pub IsDecidedUnder : GrantsOf → Decision → Type 0
 IsDecidedUnder g decision.Decided = GrantsNothing g
 IsDecidedUnder g (decision.Tolerant seconds) = (seconds ≡ g.tolerance) × ¬ (GrantsNothing g)
+IsDecidedUnder g decision.Births = (g.tolerance ≡ pos 0) × ¬ (GrantsNothing g)
 IsDecidedUnder g (decision.UsedUp steps) = ⊥
 IsDecidedUnder g (decision.NotPlain numbers) = ⊥
 IsDecidedUnder g (decision.OneObject object) = ⊥
+IsDecidedUnder g decision.Impossible = ⊥
 IsDecidedUnder g (decision.OutOfTime seconds) = ⊥
 
 -- What is said of calls that were given up after so many steps of a budget: that the search has decided; or that it hasn't, since the calls are
 -- plain and no steps were left, too few even where the calls are forced, or since these aren't plain; or that it had, were moments stamps. Of one
--- object nothing is said, and nothing of seconds that are over.
+-- object or one call nothing is said, and nothing of seconds that are over.
 abbrev pub IsSaid : GrantsOf → List CallOf → ℕ → ℕ → Decision → Type 0
 IsSaid g calls budget count decision.Decided = HasDecided calls budget count × IsDecidedUnder g decision.Decided
 IsSaid g calls budget count (decision.Tolerant seconds) = HasDecided calls budget count × IsDecidedUnder g (decision.Tolerant seconds)
+IsSaid g calls budget count decision.Births = HasDecided calls budget count × IsDecidedUnder g decision.Births
 IsSaid g calls budget count (decision.UsedUp steps) = ((plain : List StepOf) × ArePlain calls plain) × (budget ≤ count)
     × (IsForced calls → budget < length calls) × (steps ≡ budget)
 IsSaid g calls budget count (decision.NotPlain numbers) = AreUnplain calls numbers.items × (numbers.items ≢ [])
 IsSaid g calls budget count (decision.OneObject object) = ⊥
+IsSaid g calls budget count decision.Impossible = ⊥
 IsSaid g calls budget count (decision.OutOfTime seconds) = ⊥
 
 -- what giving up says of a transcript with these marks, under a declaration that grants this
@@ -75,17 +80,21 @@ TellsObject object (Some decision.Decided) = ⊥
 TellsObject object (Some (decision.UsedUp steps)) = ⊥
 TellsObject object (Some (decision.NotPlain numbers)) = ⊥
 TellsObject object (Some (decision.Tolerant seconds)) = ⊥
+TellsObject object (Some decision.Births) = ⊥
+TellsObject object (Some decision.Impossible) = ⊥
 TellsObject object (Some (decision.OutOfTime seconds)) = ⊥
 TellsObject object (Some (decision.OneObject named)) = string_bytes named ≡ string_bytes object
 
 -- Of a yes nothing is said. Of a giving up something is; and where it is said to be decided, no order explains the transcript. Where one object
--- refutes the transcript, that is said, and no order explains it. Where the seconds of the search are over, that is said, and how many they are.
+-- refutes the transcript, that is said, and no order explains it; and where the answer of one call is impossible over every inventory, no order
+-- explains it. Where the seconds of the search are over, that is said, and how many they are.
 abbrev pub TellsGivingUp : List MarkOf → DeclarationOf → ℕ → Found → Option Decision → Type 0
 TellsGivingUp marks declared budget (Yes witness count) said = said ≡ None
 TellsGivingUp marks declared budget (GaveUp count) None = ⊥
 TellsGivingUp marks declared budget (GaveUp count) (Some said) = TellsDecision marks (grants_declared declared) budget count (Ok said)
     × (said ≡ decision.Decided → IsExplained marks declared → ⊥)
 TellsGivingUp marks declared budget (Refuted count object) said = TellsObject object said × (IsExplained marks declared → ⊥)
+TellsGivingUp marks declared budget (Impossible count number) said = (said ≡ Some decision.Impossible) × (IsExplained marks declared → ⊥)
 TellsGivingUp marks declared budget (OutOfTime count after) said = said ≡ Some (decision.OutOfTime after)
 
 -- it is said of calls that are plain
@@ -94,7 +103,9 @@ IsOfPlain marks (Some decision.Decided) = Unit {0}
 IsOfPlain marks (Some (decision.UsedUp steps)) = Unit {0}
 IsOfPlain marks (Some (decision.NotPlain numbers)) = ⊥
 IsOfPlain marks (Some (decision.Tolerant seconds)) = Unit {0}
+IsOfPlain marks (Some decision.Births) = Unit {0}
 IsOfPlain marks (Some (decision.OneObject object)) = HaveSteps marks
+IsOfPlain marks (Some decision.Impossible) = HaveSteps marks
 IsOfPlain marks (Some (decision.OutOfTime seconds)) = HaveSteps marks
 IsOfPlain marks None = ⊥
 

@@ -4,6 +4,7 @@ use Rattle.serde_json.specs.Data.{Members, object}
 use Rattle.kmipa_json.specs.Told.{line_of}
 use Rattle.kmipa_ttlv.specs.Input.{came_of, is_failed, IsFileOf}
 use Rattle.kmipa_ttlv.specs.declared.input.Input.{Input}
+use Rattle.kmipa_record.specs.Declarations.{declaration_of}
 use Rattle.kmipa_record.specs.Transcripts.{transcript_of}
 use Rattle.kmipa_record.specs.Witnesses.{witness_of}
 use Rattle.kmipa_record.specs.declared.head.Head.{Head}
@@ -25,7 +26,7 @@ ExplainsInputs t d w outcome = ((a b c : List ℕ) → IsFileOf a t → IsFileOf
 -- what is told of it: of a verdict what it means besides, and of a fault what it means
 abbrev pub TellsExplained : Result Explained FaultTold → Status → Members → Members → Type 0
 TellsExplained (Ok explained) said before after = (told : Members)
-    × TellsVerdict (transcript_of explained.records.transcript) (witness_of explained.records.witness) explained.verdict said before told
+    × TellsVerdict (transcript_of explained.records.transcript) (declaration_of explained.records.declaration) (witness_of explained.records.witness) explained.verdict said before told
     × TellsMeaning explained.explanation told after
 TellsExplained (Err told) said before after = TellsFaultTold told said before after
 

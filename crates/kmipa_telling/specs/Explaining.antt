@@ -56,6 +56,6 @@ PrintsMore (Some e) lines = PrintsExplanation e lines
 -- the lines of the verdict, and behind them those of its explanation; or the line of a fault, and behind it those of what it means
 abbrev pub PrintsExplained : Result Explained FaultTold → Status → List ℕ → Type 0
 PrintsExplained (Ok explained) said lines = (front more : List ℕ)
-    × PrintsVerdict (transcript_of explained.records.transcript) (witness_of explained.records.witness) explained.verdict said front
+    × PrintsVerdict (transcript_of explained.records.transcript) (declaration_of explained.records.declaration) (witness_of explained.records.witness) explained.verdict said front
     × PrintsMore explained.explanation more × (lines ≡ front ++ more)
 PrintsExplained (Err told) said lines = PrintsFaultTold told said lines

@@ -3,7 +3,7 @@ use Rattle.std.specs.Prelude.{◌≡◌, ℕ, List, [], ◌∷◌, ◌++◌, cod
 use Rattle.std.specs.Fmt.{decimal, signed_decimal}
 use Rattle.std.specs.String.{string_bytes}
 use Rattle.kmipa_runs.specs.Lines.{line}
-use Rattle.kmipa_runs.specs.Searches.{found_status, found_text, forced_text, Makes}
+use Rattle.kmipa_runs.specs.Searches.{found_status, searched_text, Makes}
 use Rattle.kmipa_runs.specs.Shown.{quoted}
 use Rattle.kmipa_runs.specs.declared.status.Status.{Status}
 use Rattle.kmipa_telling.specs.Deepest.{reached_text}
@@ -18,10 +18,12 @@ use Rattle.kmipa_telling.specs.declared.judged.Judged.{Judged}
 abbrev pub decision_line : Decision → List ℕ
 decision_line decision.Decided = line (codes "decided: no order explains every answer" ∷ [])
 decision_line (decision.UsedUp steps) = line (codes "not decided: the budget of " ∷ decimal steps ∷ codes " steps is used up" ∷ [])
+decision_line decision.Impossible = line (codes "decided: no order explains every answer" ∷ [])
 decision_line (decision.OneObject object) = line (codes "decided: no order explains the answers about object " ∷ quoted (string_bytes object) ∷ [])
 decision_line (decision.NotPlain numbers) = line (codes "not decided: these are not plain: " ∷ calls_text numbers.items ∷ [])
 decision_line (decision.OutOfTime seconds) = line (codes "not decided: " ∷ decimal seconds ∷ codes " seconds are over" ∷ [])
 decision_line (decision.Tolerant seconds) = line (codes "not decided: moments within " ∷ signed_decimal seconds ∷ codes " seconds of their stamps were not all tried" ∷ [])
+decision_line decision.Births = line (codes "not decided: what the server itself may give at birth was not all tried" ∷ [])
 
 -- of a yes nothing more is printed
 abbrev pub decision_text : Option Decision → List ℕ
@@ -30,7 +32,7 @@ decision_text (Some said) = decision_line said
 
 -- the lines of what was found, and behind them what giving up says, and the deepest place
 abbrev pub judged_text : Judged → List ℕ
-judged_text judged = (forced_text judged.searched.forced ++ found_text judged.searched.found) ++ (decision_text judged.decision ++ reached_text judged.reached)
+judged_text judged = searched_text judged.searched ++ (decision_text judged.decision ++ reached_text judged.reached)
 
 -- What is made and printed at a status: what a search without `--explain` does, but for the lines more. A fault prints its line, and behind it
 -- those of what it means, and makes nothing.

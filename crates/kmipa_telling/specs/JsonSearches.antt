@@ -7,7 +7,8 @@ use Rattle.kmipa_ttlv.specs.Input.{came_of, is_ended, is_failed, IsFileOf}
 use Rattle.kmipa_ttlv.specs.declared.input.Input.{Input}
 use Rattle.kmipa_record.specs.declared.head.Head.{Head}
 use Rattle.kmipa_search.specs.declared.found.Found.{Found}
-use Rattle.kmipa_search.specs.declared.found.Found.TheVariants.{Yes, GaveUp, Refuted, OutOfTime}
+use Rattle.kmipa_search.specs.declared.found.Found.TheVariants.{Yes, GaveUp, Refuted, Impossible, OutOfTime}
+use Rattle.kmipa_stream.specs.declared.tally.Tally.{Tally}
 use Rattle.kmipa_runs.specs.Searches.{found_status, Makes}
 use Rattle.kmipa_runs.specs.declared.status.Status.{Status}
 use Rattle.kmipa_search.specs.declared.stuck.Reached.{Reached}
@@ -17,7 +18,7 @@ use Rattle.kmipa_telling.specs.DeepestClaims.{told_reached}
 use Rattle.kmipa_telling.specs.FaultsTold.{TellsFaultTold, by_fault}
 use Rattle.kmipa_telling.specs.Judging.{WhereRead}
 use Rattle.kmipa_telling.specs.Seals.{KnowsJudged}
-use Rattle.kmipa_telling.specs.Telling.{input_members, opened, transcript_members, verdict_named}
+use Rattle.kmipa_telling.specs.Telling.{input_members, opened, told_tally, transcript_members, verdict_named}
 use Rattle.kmipa_telling.specs.declared.fault_told.FaultTold.{FaultTold}
 use Rattle.kmipa_telling.specs.declared.judged.Decision.{Decision}
 use Rattle.kmipa_telling.specs.declared.judged.Decision.TheVariants as decision
@@ -36,14 +37,17 @@ DecidesInputs t d seconds budget asked outcome = ((a b : List ℕ) → IsFileOf 
 
 -- ---- what is told
 
--- whether giving up has decided, and by which object; if not, the budget that was used up, the calls that aren't plain, the tolerance, or the seconds that are over
+-- whether giving up has decided, and by which object; if not, the budget that was used up, the calls that aren't plain, the tolerance, the
+-- seconds that are over, or that there may be births
 abbrev pub decision_members : Decision → Members → Members
 decision_members decision.Decided told = put (codes "decided") (boolean true) told
 decision_members (decision.UsedUp steps) told = put (codes "budget") (count steps) (put (codes "decided") (boolean false) told)
+decision_members decision.Impossible told = put (codes "decided") (boolean true) told
 decision_members (decision.OneObject named) told = put (codes "object") (string (string_bytes named)) (put (codes "decided") (boolean true) told)
 decision_members (decision.NotPlain numbers) told = put (codes "not_plain") (array (call_items numbers.items)) (put (codes "decided") (boolean false) told)
 decision_members (decision.OutOfTime seconds) told = put (codes "seconds") (count seconds) (put (codes "decided") (boolean false) told)
 decision_members (decision.Tolerant seconds) told = put (codes "tolerance") (integer seconds) (put (codes "decided") (boolean false) told)
+decision_members decision.Births told = put (codes "births") (boolean true) (put (codes "decided") (boolean false) told)
 
 abbrev pub told_decision : Option Decision → Members → Members
 told_decision None told = told
@@ -58,15 +62,16 @@ told_forced (Some forced) told = put (codes "forced") (boolean forced) told
 abbrev pub steps_members : List ℕ → ℕ → Members → Members
 steps_members name steps told = put (codes "steps") (count steps) (verdict_named name told)
 
-abbrev pub told_found : Found → Option Decision → Option Reached → Members → Members
-told_found (Yes witness steps) said reached told = steps_members (codes "yes") steps told
-told_found (GaveUp steps) said reached told = told_reached reached (told_decision said (steps_members (codes "gave up") steps told))
-told_found (Refuted steps named) said reached told = told_reached reached (told_decision said (steps_members (codes "gave up") steps told))
-told_found (OutOfTime steps after) said reached told = told_reached reached (told_decision said (steps_members (codes "gave up") steps told))
+abbrev pub told_found : Found → Option Tally → Option Decision → Option Reached → Members → Members
+told_found (Yes witness steps) tally said reached told = told_tally tally (steps_members (codes "yes") steps told)
+told_found (GaveUp steps) tally said reached told = told_reached reached (told_decision said (steps_members (codes "gave up") steps told))
+told_found (Refuted steps named) tally said reached told = told_reached reached (told_decision said (steps_members (codes "gave up") steps told))
+told_found (Impossible steps number) tally said reached told = told_reached reached (told_decision said (steps_members (codes "gave up") steps told))
+told_found (OutOfTime steps after) tally said reached told = told_reached reached (told_decision said (steps_members (codes "gave up") steps told))
 
 -- what is told of what was found
 abbrev pub found_members : Judged → Members → Members
-found_members judged told = told_found judged.searched.found judged.decision judged.reached (told_forced judged.searched.forced told)
+found_members judged told = told_found judged.searched.found judged.searched.tally judged.decision judged.reached (told_forced judged.searched.forced told)
 
 -- ---- what is made and printed
 
@@ -75,6 +80,7 @@ abbrev pub found_items : Found → List ℕ → Items → Items
 found_items (Yes witness steps) made told = with_item (object (file_members (codes "witness") made)) told
 found_items (GaveUp steps) made told = told
 found_items (Refuted steps named) made told = told
+found_items (Impossible steps number) made told = told
 found_items (OutOfTime steps after) made told = told
 
 abbrev pub judged_items : Result Judged FaultTold → List ℕ → Items → Items

@@ -1,10 +1,11 @@
 -- What is told in JSON of a verdict or a fault: the numbers of its line, each under a name of its own. An object has each name once, and
 -- what is put under a name stands in place of what it had there.
-use Rattle.std.specs.Prelude.{◌≡◌, ℕ, ℤ, Bool, true, false, List, take, codes, Option, Some, None, Result, Ok, Err}
+use Rattle.std.specs.Prelude.{◌≡◌, ◌+◌, ℕ, ℤ, Bool, true, false, List, take, codes, Option, Some, None, Result, Ok, Err}
 use Rattle.serde_json.specs.Data.{Members, Items, no_items, item, no_members, object, array, string, put}
 use Rattle.kmipa_json.specs.Told.{count, integer, file_members, line_of}
 use Rattle.kmipa_ttlv.specs.Flaw.{fault_name}
 use Rattle.kmipa_ttlv.specs.Input.{came_of, is_ended}
+use Rattle.kmipa_ttlv.specs.Stream.{capped}
 use Rattle.kmipa_ttlv.specs.declared.input.Input.{Input}
 use Rattle.kmipa_msgs.specs.Kinds as messages
 use Rattle.kmipa_msgs.specs.declared.fault.Outside.{Outside}
@@ -13,6 +14,7 @@ use Rattle.kmipa_record.specs.Kinds as files
 use Rattle.kmipa_record.specs.declared.fault.RecordKind.{RecordKind}
 use Rattle.kmipa_record.specs.declared.fault.RecordKind.TheVariants.{Ttlv, Device, Memory}
 use Rattle.kmipa_record.specs.declared.head.Head.{Head}
+use Rattle.kmipa_record.specs.Declarations.{DeclarationOf, declaration_of}
 use Rattle.kmipa_record.specs.Marks.{MarkOf}
 use Rattle.kmipa_record.specs.Witnesses.{TurnOf, witness_of}
 use Rattle.kmipa_record.specs.Transcripts.{transcript_of}
@@ -27,7 +29,8 @@ use Rattle.kmipa_check.specs.declared.verdict.Refused.{Refused}
 use Rattle.kmipa_check.specs.declared.verdict.Verdict.{Verdict}
 use Rattle.kmipa_check.specs.declared.verdict.Verdict.TheVariants as verdict
 use Rattle.kmipa_runs.specs.Dates.{TellsSecond}
-use Rattle.kmipa_runs.specs.Lines.{side_name, fault_status}
+use Rattle.kmipa_stream.specs.declared.tally.Tally.{Tally}
+use Rattle.kmipa_runs.specs.Lines.{TalliesRecorded, side_name, fault_status}
 use Rattle.kmipa_runs.specs.declared.status.Status.{Status}
 use Rattle.kmipa_runs.specs.declared.status.Status.TheVariants as status
 use Rattle.kmipa_telling.specs.Seals.{KnowsJudged, sealed_members}
@@ -45,6 +48,18 @@ named_under key number name = put key (object (named_members number name))
 
 -- ---- verdicts
 
+-- what became of the items of a run, with the numbers of its line; nothing where nothing is told of them
+abbrev pub aside_members : Tally → Members
+aside_members t = put (codes "object") (count 0) (put (codes "witness") (count 0) (put (codes "answer") (count 0) (put (codes "request") (count t.by_request) no_members)))
+
+abbrev pub tally_members : Tally → Members
+tally_members t = put (codes "set_aside") (object (aside_members t))
+    (put (codes "items") (count (capped (t.judged + t.by_request))) (put (codes "judged") (count t.judged) no_members))
+
+abbrev pub told_tally : Option Tally → Members → Members
+told_tally None told = told
+told_tally (Some tally) told = put (codes "tally") (object (tally_members tally)) told
+
 -- the turn, the call and the item of a no, and the reason
 abbrev pub refused_members : Refused → Members → Members
 refused_members r told = named_under (codes "why") (why_number r.why) (why_name r.why) (put (codes "item") (count r.item)
@@ -56,10 +71,12 @@ TellsDate None before after = after ≡ before
 TellsDate (Some second) before after = (date : List ℕ) × TellsSecond second date
     × (after ≡ put (codes "date") (string date) (put (codes "stamp") (integer second) before))
 
--- what is told of a verdict on these marks and turns; of a no besides the Time Stamp of its call's response
-abbrev pub TellsVerdict : List MarkOf → List TurnOf → Verdict → Status → Members → Members → Type 0
-TellsVerdict marks turns verdict.Yes said before after = (said ≡ status.Done) × (after ≡ verdict_named (codes "yes") before)
-TellsVerdict marks turns (verdict.No refused) said before after = (said ≡ status.No)
+-- what is told of a verdict on these marks and turns by this declaration; of a yes besides what became of the items, where it sets aside, and of
+-- a no the Time Stamp of its call's response
+abbrev pub TellsVerdict : List MarkOf → DeclarationOf → List TurnOf → Verdict → Status → Members → Members → Type 0
+TellsVerdict marks declared turns verdict.Yes said before after = (said ≡ status.Done)
+    × ((tally : Option Tally) × TalliesRecorded marks declared turns tally × (after ≡ told_tally tally (verdict_named (codes "yes") before)))
+TellsVerdict marks declared turns (verdict.No refused) said before after = (said ≡ status.No)
     × ((stamp : Option ℤ) × TellsStamp marks turns refused.call stamp × TellsDate stamp (refused_members refused before) after)
 
 -- ---- faults
@@ -98,7 +115,7 @@ TellsFault fault said before after = (said ≡ fault_status fault) × (after ≡
 
 -- what is told of an audit
 abbrev pub TellsOutcome : Result Audited AuditFault → Status → Members → Members → Type 0
-TellsOutcome (Ok audited) said before after = TellsVerdict (transcript_of audited.transcript) (witness_of audited.witness) audited.verdict said before after
+TellsOutcome (Ok audited) said before after = TellsVerdict (transcript_of audited.transcript) (declaration_of audited.declaration) (witness_of audited.witness) audited.verdict said before after
 TellsOutcome (Err fault) said before after = TellsFault fault said before after
 
 -- ---- whole objects

@@ -86,7 +86,7 @@ unwanted_told (unwanted.Second number) before = put (codes "named_before") (coun
 -- a birth, or what is set aside
 abbrev pub birth_told : Unfit → Members → Members
 birth_told (unfit.BirthUnwanted u) before = unwanted_told u.why (put (codes "item") (integer u.item) (put (codes "birth") (count u.number) before))
-birth_told (unfit.BirthFormless item) before = put (codes "item") (integer item) (put (codes "birth") (count 1) before)
+birth_told (unfit.BirthFormless f) before = put (codes "item") (integer f.item) (put (codes "birth") (count f.birth) before)
 birth_told (unfit.Aside item) before = put (codes "set_aside") (integer item) before
 birth_told other before = before
 

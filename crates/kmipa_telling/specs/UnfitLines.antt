@@ -46,7 +46,7 @@ unwanted_part_lines which u = part_line which u.number u.item ++ unwanted_lines 
 -- the lines of a birth, or of what is set aside
 abbrev pub birth_lines : Unfit → List ℕ
 birth_lines (unfit.BirthUnwanted u) = unwanted_part_lines part.Birth u
-birth_lines (unfit.BirthFormless item) = part_line part.Birth 1 item ++ line (codes "may be given: no attribute" ∷ [])
+birth_lines (unfit.BirthFormless f) = part_line part.Birth f.birth f.item
 birth_lines (unfit.Aside item) = line (codes "set aside: item " ∷ signed_decimal item ∷ [])
 birth_lines other = []
 

@@ -142,5 +142,5 @@ wanted_text (unfit.FillMissing m) = codes "a fill with the item's Response Paylo
 wanted_text (unfit.FillFormless f) = codes "a Response Payload of this operation"
 wanted_text (unfit.Untimely m) = codes "a moment within the tolerance"
 wanted_text (unfit.BirthUnwanted u) = birth_wanted_text u.why
-wanted_text (unfit.BirthFormless item) = codes "no birth"
+wanted_text (unfit.BirthFormless f) = codes "a birth of attributes that the server itself may give"
 wanted_text (unfit.Aside item) = codes "no item that is set aside"

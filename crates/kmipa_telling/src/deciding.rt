@@ -27,7 +27,7 @@ pub fn decide(
     count: u64,
 ) -> Result<Decision, CheckFault>
     ensures { AreRecorded (transcript_of transcript.now)
-        → TellsDecision (transcript_of transcript.now) (grants_of grants) budget count result }
+        → TellsDecision (transcript_of transcript.now) (grants_of grants.entry) budget count result }
 {
     let calls = read_calls(alloc, transcript)?;
     decide_calls(alloc, transcript, &calls, grants, budget, count)
@@ -44,7 +44,7 @@ fn decide_calls(
 ) -> Result<Decision, CheckFault>
     ensures { AreRecorded (transcript_of transcript.now)
         → AreCalls (transcript_of transcript.now) (map call_of calls.now)
-        → TellsDecision (transcript_of transcript.now) (grants_of grants) budget count result }
+        → TellsDecision (transcript_of transcript.now) (grants_of grants.entry) budget count result }
 {
     let numbers = unplain(alloc, calls)?;
     if numbers.as_slice().is_empty() {
@@ -65,7 +65,7 @@ fn decide_plain(
     ensures { AreRecorded (transcript_of transcript.now)
         → AreCalls (transcript_of transcript.now) (map call_of calls.now)
         → ((steps : List StepOf) × ArePlain (map call_of calls.now) steps)
-        → TellsDecision (transcript_of transcript.now) (grants_of grants) budget count result }
+        → TellsDecision (transcript_of transcript.now) (grants_of grants.entry) budget count result }
 {
     if count < budget {
         return Ok(decided_under(grants));
@@ -80,14 +80,16 @@ fn decide_plain(
     }
 }
 
-/// What is said where each order was tried at the stamps: that is decided where moments are stamps.
+/// What is said where each order was tried at the stamps, without births: that is decided where nothing else is granted.
 fn decided_under(grants: Grants) -> Decision
-    ensures { IsDecidedUnder (grants_of grants) result }
+    ensures { IsDecidedUnder (grants_of grants.entry) result }
 {
-    if grants.tolerance == 0 {
+    if grants.tolerance != 0 {
+        Decision::Tolerant(grants.tolerance)
+    } else if grants.own.is_empty() {
         Decision::Decided
     } else {
-        Decision::Tolerant(grants.tolerance)
+        Decision::Births
     }
 }
 

@@ -181,6 +181,7 @@ fn tell_explained(
                 told,
                 &explained.verdict,
                 &explained.records.transcript,
+                &explained.records.declaration,
                 &explained.records.witness,
             )?;
             tell_meaning(alloc, told, &explained.explanation)?;

@@ -5,7 +5,7 @@ ghost use Rattle.std.specs.Io.{StartsWith, appended_bytes};
 ghost use Rattle.kmipa_ttlv.specs.Input.{came_of, is_ended, is_failed, IsFileOf};
 ghost use Rattle.kmipa_check.specs.Audits.{AreAccepted};
 ghost use Rattle.kmipa_runs.specs.Knowing.{Known, KnowsSeals};
-ghost use Rattle.kmipa_runs.specs.Lines.{FitsStatus, yes_line};
+ghost use Rattle.kmipa_runs.specs.Lines.{AreYesLines, FitsStatus};
 ghost use Rattle.kmipa_runs.specs.Statuses.{IsSilent};
 ghost use Rattle.kmipa_telling.specs.Explaining.{AuditsExplained, PrintsExplained, PrintsMore};
 
@@ -41,7 +41,7 @@ pub fn explain_run<R: Read>(
         ⊎ IsSilent result.status (appended_bytes out.old.items out.new.items)) }
     // `yes` is printed with status 0, and there alone.
     ensures fits { FitsStatus result.status (appended_bytes out.old.items out.new.items) }
-    ensures yes { (result.status ≡ Status.Done) ↔ (appended_bytes out.old.items out.new.items ≡ yes_line) }
+    ensures yes { (result.status ≡ Status.Done) ↔ AreYesLines (appended_bytes out.old.items out.new.items) }
     ensures appends { StartsWith out.new.items out.old.items }
     // Status 0 is answered only where the bytes that came, to the ends that were seen, are accepted.
     ensures accepts { result.status ≡ Status.Done
@@ -97,6 +97,7 @@ fn explained_lines(alloc: Global, explained: &Explained) -> Result<Lines, AllocE
         alloc,
         &explained.verdict,
         &explained.records.transcript,
+        &explained.records.declaration,
         &explained.records.witness,
     )?;
     let more = explanation_lines(alloc, &explained.explanation)?;

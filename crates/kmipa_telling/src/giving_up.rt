@@ -131,6 +131,7 @@ fn tell_judged(alloc: Global, judged: &Judged, out: &mut Vec<u8>, made: &mut Vec
         Found::Yes(witness, _) => tell_witness(alloc, witness, &lines, out, made),
         Found::GaveUp(_) => append(Ok(lines), out),
         Found::Refuted(_, _) => append(Ok(lines), out),
+        Found::Impossible(_, _) => append(Ok(lines), out),
         Found::OutOfTime(_, _) => append(Ok(lines), out),
     }
 }
@@ -167,6 +168,9 @@ fn decision_line(alloc: Global, decision: &Decision) -> Result<String, AllocErro
         Decision::Decided => {
             String::from_str(alloc, "decided: no order explains every answer\n")
         }
+        Decision::Impossible => {
+            String::from_str(alloc, "decided: no order explains every answer\n")
+        }
         Decision::OneObject(object) => {
             let quoted = quoted_text(alloc, object.as_str())?;
             format!(in alloc; "decided: no order explains the answers about object {quoted}\n")
@@ -186,5 +190,9 @@ fn decision_line(alloc: Global, decision: &Decision) -> Result<String, AllocErro
                 "not decided: moments within {seconds} seconds of their stamps were not all tried\n"
             )
         }
+        Decision::Births => String::from_str(
+            alloc,
+            "not decided: what the server itself may give at birth was not all tried\n",
+        ),
     }
 }

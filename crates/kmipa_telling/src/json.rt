@@ -253,6 +253,7 @@ fn tell_outcome(
             told,
             &audited.verdict,
             &audited.transcript,
+            &audited.declaration,
             &audited.witness,
         ),
         Err(fault) => tell_fault(alloc, told, fault),

@@ -20,12 +20,16 @@ pub enum Decision {
     Decided,
     /// No order explains the answers about the object of this identifier.
     OneObject(String),
+    /// No order explains the transcript: the answer of one call is impossible over every inventory.
+    Impossible,
     /// Nothing: so many steps, the whole budget, are used up.
     UsedUp(u64),
     /// Nothing: the calls of these numbers aren't plain.
     NotPlain(Vec<i32>),
     /// Nothing: the declaration lets moments be so many seconds from their stamps, and not all of them were tried.
     Tolerant(i32),
+    /// Nothing: the declaration lets the server itself give attributes at birth, and not all of them were tried.
+    Births,
     /// Nothing: so many seconds, all that the search had, are over.
     OutOfTime(u64),
 }
@@ -99,6 +103,16 @@ pub fn judge_records<W: Watch>(
             Ok(Judged {
                 searched,
                 decision: Some(Decision::OneObject(named)),
+                reached,
+            })
+        }
+        Found::Impossible(count, _) => {
+            let said = decide(alloc, transcript, grants, asked.budget, *count)?;
+            let order = deepest.into_calls()?;
+            let reached = deepest_place(alloc, transcript, declaration, &said, &order)?;
+            Ok(Judged {
+                searched,
+                decision: Some(Decision::Impossible),
                 reached,
             })
         }

@@ -46,6 +46,7 @@ pub fn audit_held<R: Read>(
         Ok(verdict) => Ok(Ok(Audited {
             verdict,
             transcript: records.transcript,
+            declaration: records.declaration,
             witness: records.witness,
         })),
         Err(fault) => Ok(Err(AuditFault::Check(fault))),

@@ -2,33 +2,38 @@
 
 ghost use Rattle.std.specs.Prelude.{◌≡◌, IfOk, OnOk};
 ghost use Rattle.kmipa_json.specs.Told.{members_of};
+ghost use Rattle.kmipa_record.specs.Declarations.{declaration_of};
 ghost use Rattle.kmipa_record.specs.Transcripts.{transcript_of};
 ghost use Rattle.kmipa_record.specs.Witnesses.{witness_of};
 ghost use Rattle.kmipa_runs.specs.Lines.{check_status, record_status, side_name};
-ghost use Rattle.kmipa_telling.specs.Telling.{TellsDate, TellsFault, TellsVerdict, check_members, named_members, outside_members, record_members, refused_members, verdict_named};
+ghost use Rattle.kmipa_telling.specs.Telling.{TellsDate, TellsFault, TellsVerdict, aside_members, check_members, named_members, outside_members, record_members, refused_members, tally_members, told_tally, verdict_named};
 
 use kmipa_check::{AuditFault, CheckFault, Refused, Verdict, stamp_of};
 use kmipa_json::JsonObject;
 use kmipa_msgs::Outside;
-use kmipa_record::{RecordFault, RecordKind, Transcript, Witness};
+use kmipa_record::{Declaration, RecordFault, RecordKind, Transcript, Witness};
 use kmipa_runs::{Status, date_text, message_name};
+use kmipa_stream::{Tally, tally_of_records};
 use std::alloc::{AllocError, Global};
 
-/// Puts what a verdict on this transcript and this witness tells into an object, and answers its status.
+/// Puts what a verdict on this transcript and this witness, by this declaration, tells into an object, and answers its status.
 pub fn tell_verdict(
     alloc: Global,
     told: &mut JsonObject,
     verdict: &Verdict,
     transcript: &Transcript,
+    declaration: &Declaration,
     witness: &Witness,
 ) -> Result<Status, AllocError>
     ensures { IfOk result
-        (λ status. TellsVerdict (transcript_of transcript.now) (witness_of witness.now) verdict.now status
-        (members_of told.old) (members_of told.new)) }
+        (λ status. TellsVerdict (transcript_of transcript.now) (declaration_of declaration.now)
+        (witness_of witness.now) verdict.now status (members_of told.old) (members_of told.new)) }
 {
     match verdict {
         Verdict::Yes => {
+            let tally = tally_of_records(alloc, transcript, declaration, &witness.turns)?;
             told.put_text("verdict", "yes")?;
+            tell_tally(alloc, told, tally)?;
             Ok(Status::Done)
         }
         Verdict::No(refused) => {
@@ -38,6 +43,41 @@ pub fn tell_verdict(
             Ok(Status::No)
         }
     }
+}
+
+/// Puts what became of the items into an object, where that is told.
+pub fn tell_tally(
+    alloc: Global,
+    told: &mut JsonObject,
+    tally: Option<Tally>,
+) -> Result<(), AllocError>
+    ensures { OnOk result (members_of told.new ≡ told_tally tally (members_of told.old)) }
+{
+    match tally {
+        None => Ok(()),
+        Some(tally) => told.put_object("tally", tally_object(alloc, tally)?),
+    }
+}
+
+fn tally_object(alloc: Global, tally: Tally) -> Result<JsonObject, AllocError>
+    ensures { IfOk result (λ told. members_of told ≡ tally_members tally) }
+{
+    let mut told = JsonObject::new(alloc);
+    told.put_count("judged", tally.judged)?;
+    told.put_count("items", tally.items())?;
+    told.put_object("set_aside", aside_object(alloc, tally)?)?;
+    Ok(told)
+}
+
+fn aside_object(alloc: Global, tally: Tally) -> Result<JsonObject, AllocError>
+    ensures { IfOk result (λ told. members_of told ≡ aside_members tally) }
+{
+    let mut told = JsonObject::new(alloc);
+    told.put_count("request", tally.by_request)?;
+    told.put_count("answer", 0)?;
+    told.put_count("witness", 0)?;
+    told.put_count("object", 0)?;
+    Ok(told)
 }
 
 fn tell_refused(alloc: Global, told: &mut JsonObject, refused: &Refused) -> Result<(), AllocError>

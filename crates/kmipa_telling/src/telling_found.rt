@@ -9,6 +9,7 @@ ghost use Rattle.kmipa_telling.specs.JsonSearches.{decision_members, found_membe
 use crate::claims::calls_list;
 use crate::deepest_claims::tell_reached;
 use crate::judged::{Decision, Judged};
+use crate::telling::tell_tally;
 use kmipa_json::JsonObject;
 use kmipa_runs::Status;
 use kmipa_search::Found;
@@ -29,10 +30,12 @@ pub fn tell_judged(
     match &judged.searched.found {
         Found::Yes(_, count) => {
             tell_steps(told, "yes", *count)?;
+            tell_tally(alloc, told, judged.searched.tally)?;
             Ok(Status::Done)
         }
         Found::GaveUp(count) => tell_given_up(alloc, told, judged, *count),
         Found::Refuted(count, _) => tell_given_up(alloc, told, judged, *count),
+        Found::Impossible(count, _) => tell_given_up(alloc, told, judged, *count),
         Found::OutOfTime(count, _) => tell_given_up(alloc, told, judged, *count),
     }
 }
@@ -47,7 +50,7 @@ fn tell_given_up(
     ensures status { IfOk result (λ status. status ≡ found_status (Found.GaveUp count)) }
     ensures told { OnOk result
         (members_of told.new
-        ≡ told_found (Found.GaveUp count) judged.now.decision judged.now.reached (members_of told.old)) }
+        ≡ told_found (Found.GaveUp count) judged.now.searched.tally judged.now.decision judged.now.reached (members_of told.old)) }
 {
     tell_steps(told, "gave up", count)?;
     if let Some(decision) = &judged.decision {
@@ -73,6 +76,7 @@ fn tell_decision(
 {
     match decision {
         Decision::Decided => told.put_truth("decided", true),
+        Decision::Impossible => told.put_truth("decided", true),
         Decision::OneObject(object) => {
             told.put_truth("decided", true)?;
             told.put_text("object", object.as_str())
@@ -92,6 +96,10 @@ fn tell_decision(
         Decision::Tolerant(seconds) => {
             told.put_truth("decided", false)?;
             told.put_integer("tolerance", i64::from(*seconds))
+        }
+        Decision::Births => {
+            told.put_truth("decided", false)?;
+            told.put_truth("births", true)
         }
     }
 }

@@ -116,9 +116,9 @@ fn tell_birth(alloc: Global, told: &mut JsonObject, unfit: &Unfit) -> Result<(),
             told.put_integer("item", unwanted.item as i64)?;
             tell_unwanted(alloc, told, unwanted.why)
         }
-        Unfit::BirthFormless(item) => {
-            told.put_count("birth", 1)?;
-            told.put_integer("item", *item as i64)
+        Unfit::BirthFormless(formless) => {
+            told.put_count("birth", formless.birth as u64)?;
+            told.put_integer("item", formless.item as i64)
         }
         Unfit::Aside(item) => told.put_integer("set_aside", *item as i64),
         _ => Ok(()),

@@ -118,9 +118,8 @@ fn birth_lines(alloc: Global, unfit: &Unfit) -> Result<String, AllocError>
 {
     match unfit {
         Unfit::BirthUnwanted(unwanted) => unwanted_part_lines(alloc, Part::Birth, *unwanted),
-        Unfit::BirthFormless(item) => {
-            let birth = part_line(alloc, Part::Birth, 1, *item)?;
-            format!(in alloc; "{birth}may be given: no attribute\n")
+        Unfit::BirthFormless(formless) => {
+            part_line(alloc, Part::Birth, formless.birth, formless.item)
         }
         Unfit::Aside(item) => {
             let item = *item;

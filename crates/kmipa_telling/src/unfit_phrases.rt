@@ -221,7 +221,7 @@ pub fn wanted_text(unfit: &Unfit) -> &'static str
         Unfit::FillFormless(_) => "a Response Payload of this operation",
         Unfit::Untimely(_) => "a moment within the tolerance",
         Unfit::BirthUnwanted(unwanted) => birth_wanted_text(unwanted.why),
-        Unfit::BirthFormless(_) => "no birth",
+        Unfit::BirthFormless(_) => "a birth of attributes that the server itself may give",
         Unfit::Aside(_) => "no item that is set aside",
     }
 }

@@ -3,7 +3,8 @@ use Rattle.std.specs.Io.{appended_bytes}
 use Rattle.kmipa_ttlv.specs.Input.{came_of, is_failed}
 use Rattle.kmipa_ttlv.proofs.ReadLemmas.{itself}
 use Rattle.kmipa_runs.proofs.KnowingLemmas.{knows}
-use Rattle.kmipa_telling.proofs.ExplainingLemmas.{done_accepted, explained_fits, explained_reported, told_fits, told_not_done, yes_fits}
+use Rattle.kmipa_runs.proofs.LineLemmas.{yes_fits}
+use Rattle.kmipa_telling.proofs.ExplainingLemmas.{done_accepted, explained_fits, explained_reported, told_fits, told_not_done}
 use Rattle.kmipa_telling.proofs.SealLemmas.{told_knows}
 use Rattle.kmipa_telling.proofs.explaining.explain_run.Goals as goal
 

@@ -5,7 +5,7 @@ use Rattle.kmipa_record.specs.Transcripts.{transcript_of}
 use Rattle.kmipa_check.specs.Grants.{GrantsOf, grants_declared}
 use Rattle.kmipa_runs.specs.Searches.{SearchesRecords}
 use Rattle.kmipa_telling.specs.Deciding.{TellsDecision}
-use Rattle.kmipa_telling.proofs.DecidingLemmas.{given_up_told, memory_stops, refuted_told, time_told}
+use Rattle.kmipa_telling.proofs.DecidingLemmas.{given_up_told, impossible_told, memory_stops, refuted_told, time_told}
 use Rattle.kmipa_telling.proofs.judged.judge_records.Goals as goal
 
 pub returns-in_ok-reached-in-GaveUp : goal.returns-in_ok-reached-in-GaveUp
@@ -41,6 +41,23 @@ returns-in_err-reached-in-Refuted g c =
     let G : GrantsOf → Type 0 = λ given. TellsDecision (transcript_of c.args.transcript.now) given c.args.asked.budget c.in-Refuted.count (Ok c.in_ok-said-in-Refuted.said) in
     rw (p.1, p.2) (λ recorded. memory_stops (transcript_of c.args.transcript.now) fault
     (c.in_err-reached-in-Refuted.ensures (grants_declared (declaration_of c.args.declaration.now)) c.args.asked.budget c.in-Refuted.count recorded (subst G c.of-grants.ensures (c.in_ok-said-in-Refuted.ensures recorded))))
+
+pub returns-in_ok-reached-in-Impossible : goal.returns-in_ok-reached-in-Impossible
+returns-in_ok-reached-in-Impossible g c = λ recorded.
+    let S : ℕ → Type 0 = λ n. SearchesRecords (transcript_of c.args.transcript.now) (declaration_of c.args.declaration.now) n c.args.asked.budget c.args.asked.forced (Ok c.in_ok-searched.searched) in
+    let G : GrantsOf → Type 0 = λ given. TellsDecision (transcript_of c.args.transcript.now) given c.args.asked.budget c.in-Impossible.count (Ok c.in_ok-said-in-Impossible.said) in
+    let tells = subst G c.of-grants.ensures (c.in_ok-said-in-Impossible.ensures recorded) in
+    impossible_told (transcript_of c.args.transcript.now) (declaration_of c.args.declaration.now) (g.W.Watch.seconds c.args.watch.now) c.args.asked.budget c.args.asked.forced c.in_ok-searched.searched
+    (subst S c.new-deepest.ensures (c.in_ok-searched.ensures recorded)) c.in-Impossible.count c.in-Impossible.field-1 c.in_ok-said-in-Impossible.said c.in_ok-reached-in-Impossible.reached recorded c.in-Impossible.is tells
+    (c.in_ok-reached-in-Impossible.ensures (grants_declared (declaration_of c.args.declaration.now)) c.args.asked.budget c.in-Impossible.count recorded tells)
+
+pub returns-in_err-reached-in-Impossible : goal.returns-in_err-reached-in-Impossible
+returns-in_err-reached-in-Impossible g c =
+    let p = err_from_is_err_and c.from_residual-in_err-reached-in-Impossible.result c.from_residual-in_err-reached-in-Impossible.ensures.1 in
+    let fault = c.in_err-reached-in-Impossible.field-0.0 in
+    let G : GrantsOf → Type 0 = λ given. TellsDecision (transcript_of c.args.transcript.now) given c.args.asked.budget c.in-Impossible.count (Ok c.in_ok-said-in-Impossible.said) in
+    rw (p.1, p.2) (λ recorded. memory_stops (transcript_of c.args.transcript.now) fault
+    (c.in_err-reached-in-Impossible.ensures (grants_declared (declaration_of c.args.declaration.now)) c.args.asked.budget c.in-Impossible.count recorded (subst G c.of-grants.ensures (c.in_ok-said-in-Impossible.ensures recorded))))
 
 pub returns-in_ok-reached-in-OutOfTime : goal.returns-in_ok-reached-in-OutOfTime
 returns-in_ok-reached-in-OutOfTime g c = λ recorded.

@@ -4,7 +4,7 @@ use Rattle.kmipa_record.specs.Transcripts.{transcript_of}
 use Rattle.kmipa_telling.specs.Deciding.{TellsDecision, TellsPlaceOf}
 use Rattle.kmipa_telling.specs.declared.judged.Decision.{Decision}
 use Rattle.kmipa_telling.specs.declared.judged.Decision.TheVariants as decision
-use Rattle.kmipa_telling.proofs.DecidingLemmas.{decided_have_steps, spent_have_steps, tolerant_have_steps}
+use Rattle.kmipa_telling.proofs.DecidingLemmas.{births_have_steps, decided_have_steps, spent_have_steps, tolerant_have_steps}
 use Rattle.kmipa_telling.proofs.stuck.deepest_place.Goals as goal
 
 pub returns-in-Decided : goal.returns-in-Decided
@@ -29,3 +29,10 @@ returns-in-Tolerant c = λ given budget count recorded tells.
     let Q : Decision → Type 0 = λ s. TellsPlaceOf marks (declaration_of c.args.declaration.now) (Some s) c.some_place-in-Tolerant.result in
     let seconds = c.in-Tolerant.field-0 in
     subst Q (sym c.in-Tolerant.is) (c.some_place-in-Tolerant.ensures recorded (tolerant_have_steps marks given budget count seconds (subst P c.in-Tolerant.is tells)) (Some (decision.Tolerant seconds)) tt)
+
+pub returns-in-Births : goal.returns-in-Births
+returns-in-Births c = λ given budget count recorded tells.
+    let marks = transcript_of c.args.transcript.now in
+    let P : Decision → Type 0 = λ s. TellsDecision marks given budget count (Ok s) in
+    let Q : Decision → Type 0 = λ s. TellsPlaceOf marks (declaration_of c.args.declaration.now) (Some s) c.some_place-in-Births.result in
+    subst Q (sym c.in-Births.is) (c.some_place-in-Births.ensures recorded (births_have_steps marks given budget count (subst P c.in-Births.is tells)) (Some decision.Births) tt)
