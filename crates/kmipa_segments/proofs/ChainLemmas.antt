@@ -27,7 +27,7 @@ use Rattle.kmipa_check.specs.declared.verdict.Verdict.TheVariants as verdict
 use Rattle.kmipa_check.proofs.JoinLemmas.{joined_begun_lem, recorded_begun_lem}
 use Rattle.kmipa_check.proofs.SegmentLemmas.{accepted_behind_lem, segments_join_lem}
 use Rattle.kmipa_search.specs.declared.found.Found.{Found}
-use Rattle.kmipa_search.specs.declared.found.Found.TheVariants.{Yes, GaveUp, Refuted, OutOfTime}
+use Rattle.kmipa_search.specs.declared.found.Found.TheVariants.{Yes, GaveUp, Refuted, Impossible, OutOfTime}
 use Rattle.kmipa_runs.specs.Lines.{PrintsVerdict}
 use Rattle.kmipa_runs.specs.Searches.{found_status, SearchStops}
 use Rattle.kmipa_runs.specs.Statuses.{IsSilent}
@@ -180,7 +180,9 @@ module _ (marks : List MarkOf) (declared : DeclarationOf) (since : Option ℤ) (
   found_to (GaveUp count) (Some other) left is finds = absurd finds
   found_to (GaveUp count) None left is finds = absurd cc
   found_to (Refuted count object) (Some other) left is finds = absurd finds
+  found_to (Impossible count number) (Some other) left is finds = absurd finds
   found_to (Refuted count object) None left is finds = absurd cc
+  found_to (Impossible count number) None left is finds = absurd cc
   found_to (OutOfTime count after) (Some other) left is finds = absurd finds
   found_to (OutOfTime count after) None left is finds = absurd cc
 
@@ -191,7 +193,9 @@ module _ (marks : List MarkOf) (declared : DeclarationOf) (since : Option ℤ) (
   declared_where (GaveUp count) (Some left) finds = finds
   declared_where (GaveUp count) None finds = tt
   declared_where (Refuted count object) (Some left) finds = finds
+  declared_where (Impossible count number) (Some left) finds = finds
   declared_where (Refuted count object) None finds = tt
+  declared_where (Impossible count number) None finds = tt
   declared_where (OutOfTime count after) (Some left) finds = finds
   declared_where (OutOfTime count after) None finds = tt
 

@@ -26,7 +26,8 @@ use Rattle.kmipa_check.specs.declared.segment.Checked.{Checked}
 use Rattle.kmipa_check.specs.declared.segment.Left.{Left}
 use Rattle.kmipa_check.specs.declared.verdict.Verdict.{Verdict}
 use Rattle.kmipa_check.specs.declared.verdict.Verdict.TheVariants as verdict
-use Rattle.kmipa_runs.specs.Lines.{PrintsVerdict, yes_line}
+use Rattle.kmipa_stream.specs.declared.tally.Tally.{Tally}
+use Rattle.kmipa_runs.specs.Lines.{PrintsVerdict, TalliesRecorded, yes_text}
 use Rattle.kmipa_runs.specs.Statuses.{IsSilent}
 use Rattle.kmipa_runs.specs.declared.lines.Lines.{Lines}
 use Rattle.kmipa_runs.specs.declared.status.Status.{Status}
@@ -144,12 +145,25 @@ left_refused answer left f said lines made u (inr silent) nothing = inr (silent,
 
 -- ---- what is told of a verdict
 
+-- the lines of a yes
+pub yes_told : (marks : List MarkOf) (declared : DeclarationOf) (turns : List TurnOf) (tally : Option Tally) (made : Result (String Global) AllocError) → TalliesRecorded marks declared turns tally
+    → IfOk made (λ text. string_bytes text ≡ yes_text tally)
+    → IfOk made (λ text. (tally : Option Tally) × TalliesRecorded marks declared turns tally × (string_bytes text ≡ yes_text tally))
+yes_told marks declared turns tally (Ok text) told e = (tally, told, e)
+yes_told marks declared turns tally (Err f) told e = tt
+
 -- where something is left
-pub some_told : (marks : List MarkOf) (turns : List TurnOf) (v : Verdict) (handed : Option Left) (left : Left) (said : Status) (lines made : List ℕ) → handed ≡ Some left
-    → TellsLeft yes_line left said lines made ⊎ (IsSilent said lines × (made ≡ [])) → TellsChecked marks turns v handed said lines made ⊎ (IsSilent said lines × (made ≡ []))
-some_told marks turns v handed left said lines made is tells =
-    let P : Option Left → Type 0 = λ o. TellsChecked marks turns v o said lines made ⊎ (IsSilent said lines × (made ≡ [])) in
-    subst P (sym is) tells
+pub some_told : (marks : List MarkOf) (declared : DeclarationOf) (turns : List TurnOf) (v : Verdict) (handed : Option Left) (left : Left) (tally : Option Tally) (answer : List ℕ) (said : Status) (lines made : List ℕ)
+    → handed ≡ Some left → TalliesRecorded marks declared turns tally → answer ≡ yes_text tally
+    → TellsLeft answer left said lines made ⊎ (IsSilent said lines × (made ≡ [])) → TellsChecked marks declared turns v handed said lines made ⊎ (IsSilent said lines × (made ≡ []))
+some_told marks declared turns v handed left tally answer said lines made is tallied reads tells =
+    let P : Option Left → Type 0 = λ o. TellsChecked marks declared turns v o said lines made ⊎ (IsSilent said lines × (made ≡ [])) in
+    let Q : List ℕ → Type 0 = λ a. TellsLeft a left said lines made ⊎ (IsSilent said lines × (made ≡ [])) in
+    subst P (sym is) (by (subst Q reads tells))
+  where
+    by : TellsLeft (yes_text tally) left said lines made ⊎ (IsSilent said lines × (made ≡ [])) → TellsChecked marks declared turns v (Some left) said lines made ⊎ (IsSilent said lines × (made ≡ []))
+    by (inl told) = inl (tally, tallied, told)
+    by (inr silent) = inr silent
 
 -- ---- status 0
 
@@ -196,17 +210,17 @@ made_of answer left said lines made done (not_made e none prints nothing) =
     let clash : status.Refused ≡ status.Done = sym e ∙ done in absurd cc
 
 none_handed : (segment : Segment) (t d w : List ℕ) (moment : Option ℤ) (said : Status) (lines : List ℕ) → AreChecked segment t d w moment → segment.checked.left ≡ None
-    → PrintsVerdict (transcript_of segment.records.transcript) (witness_of segment.records.witness) segment.checked.verdict said lines → said ≡ status.Done → ⊥
+    → PrintsVerdict (transcript_of segment.records.transcript) (declaration_of segment.records.declaration) (witness_of segment.records.witness) segment.checked.verdict said lines → said ≡ status.Done → ⊥
 none_handed segment t d w moment said lines a none prints done =
     yes_hands_out segment.checked.verdict segment.checked.left (λ (l : Left). RecordsLead segment.records moment l)
-    (done_is_yes (transcript_of segment.records.transcript) (witness_of segment.records.witness) segment.checked.verdict said lines (inl prints) done) none a.leads
+    (done_is_yes (transcript_of segment.records.transcript) (declaration_of segment.records.declaration) (witness_of segment.records.witness) segment.checked.verdict said lines (inl prints) done) none a.leads
 
 leads_at : (leaves : Bool) (segment : Segment) (t d w : List ℕ) (moment : Option ℤ) (said : Status) (lines made : List ℕ) → AreChecked segment t d w moment → said ≡ status.Done
     → (handed : Option Left) → segment.checked.left ≡ handed
-    → TellsChecked (transcript_of segment.records.transcript) (witness_of segment.records.witness) segment.checked.verdict (if_asked leaves handed) said lines made
+    → TellsChecked (transcript_of segment.records.transcript) (declaration_of segment.records.declaration) (witness_of segment.records.witness) segment.checked.verdict (if_asked leaves handed) said lines made
     → LeadsAsAsked leaves t d w moment made
 leads_at true segment t d w moment said lines made a done (Some left) e tells =
-    (declaration_of left.declaration, lead_of segment t d w moment a left e, made_of _ left said lines made done tells)
+    (declaration_of left.declaration, lead_of segment t d w moment a left e, made_of _ left said lines made done tells.2)
 leads_at false segment t d w moment said lines made a done (Some left) e tells = (declaration_of left.declaration, lead_of segment t d w moment a left e, tells.1)
 leads_at true segment t d w moment said lines made a done None e tells = absurd (none_handed segment t d w moment said lines a e tells.0 done)
 leads_at false segment t d w moment said lines made a done None e tells = absurd (none_handed segment t d w moment said lines a e tells.0 done)

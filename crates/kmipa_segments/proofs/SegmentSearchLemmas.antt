@@ -40,9 +40,10 @@ use Rattle.kmipa_check.proofs.WholeOrderLemmas.{number_of, same_call}
 use Rattle.kmipa_search.specs.Found.{Finds, FindsIn, HasDecided, stopped, enough, one_by_one}
 use Rattle.kmipa_search.specs.Plain.{ArePlain, IsPlainStep}
 use Rattle.kmipa_search.specs.declared.found.Found.{Found}
-use Rattle.kmipa_search.specs.declared.found.Found.TheVariants.{Yes, GaveUp, Refuted, OutOfTime}
+use Rattle.kmipa_search.specs.declared.found.Found.TheVariants.{Yes, GaveUp, Refuted, Impossible, OutOfTime}
 use Rattle.kmipa_search.proofs.PlainLemmas.{one_plain_step, plain_from}
-use Rattle.kmipa_runs.specs.Searches.{found_status, found_text, forced_text, AreUnsearched, Makes, PrintsSearch, SearchStops}
+use Rattle.kmipa_stream.specs.declared.tally.Tally.{Tally}
+use Rattle.kmipa_runs.specs.Searches.{found_status, AreUnsearched, Makes, PrintsSearch, SearchStops, TalliesFound, searched_text}
 use Rattle.kmipa_runs.specs.Statuses.{IsSilent}
 use Rattle.kmipa_runs.specs.declared.searched.Searched.{Searched}
 use Rattle.kmipa_runs.specs.declared.status.Status.{Status}
@@ -190,6 +191,10 @@ pub found_so : (marks : List MarkOf) (declared : DeclarationOf) (seconds budget 
     → FindsIn seconds marks declared budget so
 found_so marks declared seconds budget found so is finds = let P : Found → Type 0 = λ f. FindsIn seconds marks declared budget f in subst P is finds
 
+-- and of what became of the items
+pub tallied_so : (marks : List MarkOf) (declared : DeclarationOf) (found so : Found) (tally : Option Tally) → found ≡ so → TalliesFound marks declared found tally → TalliesFound marks declared so tally
+tallied_so marks declared found so tally is told = let P : Found → Type 0 = λ f. TalliesFound marks declared f tally in subst P is told
+
 -- a search that gives up says so of every moment
 pub gives_up : (marks : List MarkOf) (declared : DeclarationOf) (since : Option ℤ) (count seconds budget : ℕ) → AreRecorded marks → Finds marks declared budget (GaveUp count)
     → FindsSince marks declared since seconds budget (GaveUp count) None
@@ -203,6 +208,11 @@ gives_up marks declared since count seconds budget r found = (found.0, (found.1.
 pub refutes : (marks : List MarkOf) (declared : DeclarationOf) (since : Option ℤ) (count seconds budget : ℕ) (object : String Global) → Finds marks declared budget (Refuted count object)
     → FindsSince marks declared since seconds budget (Refuted count object) None
 refutes marks declared since count seconds budget object found = (found.0, λ e. found.2 e.explained)
+
+-- or a call whose answer is impossible over every inventory
+pub never_explained : (marks : List MarkOf) (declared : DeclarationOf) (since : Option ℤ) (count seconds budget call : ℕ) → Finds marks declared budget (Impossible count call)
+    → FindsSince marks declared since seconds budget (Impossible count call) None
+never_explained marks declared since count seconds budget call found = (found.0, λ e. found.2 e.explained)
 
 -- ---- what is made
 
@@ -219,7 +229,7 @@ on_success (Err u) failed p is none = absurd cc
 abbrev pub IsAllSilent : Status → List ℕ → List ℕ → List ℕ → Type 0
 IsAllSilent said lines made left_made = IsSilent said lines × (made ≡ []) × (left_made ≡ [])
 
-pub both_done : (searched : Searched) (next : Left) (text lines made left_made : List ℕ) → text ≡ forced_text searched.forced ++ found_text searched.found → Makes searched.found made
+pub both_done : (searched : Searched) (next : Left) (text lines made left_made : List ℕ) → text ≡ searched_text searched → Makes searched.found made
     → TellsLeft text next status.Done lines left_made ⊎ (IsSilent status.Done lines × (left_made ≡ []))
     → TellsBoth searched next status.Done lines made left_made ⊎ IsAllSilent status.Done lines made left_made
 both_done searched next text lines made left_made reads makes (inl tells) =
@@ -227,7 +237,7 @@ both_done searched next text lines made left_made reads makes (inl tells) =
     inl (subst P reads tells, record { found_made = λ done. makes; nothing = λ other. absurd (other refl) })
 both_done searched next text lines made left_made reads makes (inr silent) = let clash : status.Done ≡ status.Failed = silent.0.0 in absurd cc
 
-pub both_not : (searched : Searched) (next : Left) (said : Status) (text lines made left_made : List ℕ) → text ≡ forced_text searched.forced ++ found_text searched.found
+pub both_not : (searched : Searched) (next : Left) (said : Status) (text lines made left_made : List ℕ) → text ≡ searched_text searched
     → said ≢ status.Done → made ≡ [] → TellsLeft text next said lines left_made ⊎ (IsSilent said lines × (left_made ≡ []))
     → TellsBoth searched next said lines made left_made ⊎ IsAllSilent said lines made left_made
 both_not searched next said text lines made left_made reads other nothing (inl tells) =
@@ -311,8 +321,11 @@ module _ (segment : FoundSegment) (t d : List ℕ) (since : Option ℤ) (seconds
   leads_at true (OutOfTime count after) None found is tells = let clash : status.GaveUp ≡ status.Done = sym (ap found_status found) ∙ sym tells.0.0 ∙ done in absurd cc
   leads_at false (OutOfTime count after) None found is tells = let clash : status.GaveUp ≡ status.Done = sym (ap found_status found) ∙ sym tells.0.0 ∙ done in absurd cc
   leads_at leaves (Refuted count object) (Some left) found is tells = absurd (never (Refuted count object) (Some left) found is (λ h. h))
+  leads_at leaves (Impossible count number) (Some left) found is tells = absurd (never (Impossible count number) (Some left) found is (λ h. h))
   leads_at true (Refuted count object) None found is tells = let clash : status.GaveUp ≡ status.Done = sym (ap found_status found) ∙ sym tells.0.0 ∙ done in absurd cc
+  leads_at true (Impossible count number) None found is tells = let clash : status.GaveUp ≡ status.Done = sym (ap found_status found) ∙ sym tells.0.0 ∙ done in absurd cc
   leads_at false (Refuted count object) None found is tells = let clash : status.GaveUp ≡ status.Done = sym (ap found_status found) ∙ sym tells.0.0 ∙ done in absurd cc
+  leads_at false (Impossible count number) None found is tells = let clash : status.GaveUp ≡ status.Done = sym (ap found_status found) ∙ sym tells.0.0 ∙ done in absurd cc
 
   -- status 0 is reported where a witness was found, and what it leads to is made where it is asked for
   pub done_found : (leaves : Bool) → TellsFound segment (if_asked leaves segment.left) said lines made left_made ⊎ IsAllSilent said lines made left_made

@@ -18,9 +18,9 @@ use Rattle.kmipa_check.specs.declared.segment.Left.{Left}
 use Rattle.kmipa_links.specs.Linking.{HasGap, LinksOn}
 use Rattle.kmipa_links.specs.declared.links.Links.{Links}
 use Rattle.kmipa_search.specs.declared.found.Found.{Found}
-use Rattle.kmipa_search.specs.declared.found.Found.TheVariants.{Yes, GaveUp, Refuted, OutOfTime}
+use Rattle.kmipa_search.specs.declared.found.Found.TheVariants.{Yes, GaveUp, Refuted, Impossible, OutOfTime}
 use Rattle.kmipa_runs.specs.Lines.{PrintsFault, PrintsVerdict}
-use Rattle.kmipa_runs.specs.Searches.{found_status, found_text, forced_text, SearchStops}
+use Rattle.kmipa_runs.specs.Searches.{found_status, searched_text, SearchStops}
 use Rattle.kmipa_runs.specs.Statuses.{IsSilent}
 use Rattle.kmipa_runs.specs.declared.status.Status.{Status}
 use Rattle.kmipa_segments.specs.Gaps.{PrintsGap}
@@ -142,9 +142,9 @@ abbrev pub ChecksNext : Chain → Links → List ℕ → List ℕ → List ℕ �
 ChecksNext chain next name t w failed_t failed_w (Ok segment) = AreCheckedNext chain next name segment t w
 ChecksNext chain next name t w failed_t failed_w (Err unjudged) = NextFails chain name t w failed_t failed_w unjudged
 
--- the lines of the verdict
-abbrev pub TellsChecked : NextSegment → Status → List ℕ → Type 0
-TellsChecked segment said lines = PrintsVerdict (transcript_of segment.transcript) (witness_of segment.witness) segment.checked.verdict said lines
+-- the lines of the verdict, from what is held on
+abbrev pub TellsChecked : Left → NextSegment → Status → List ℕ → Type 0
+TellsChecked held segment said lines = PrintsVerdict (transcript_of segment.transcript) (declaration_of held.declaration) (witness_of segment.witness) segment.checked.verdict said lines
 
 -- ---- what is searched
 
@@ -171,13 +171,14 @@ SearchesNext chain next name t failed_t seconds budget (Err (Gap gap)) = HasGap 
 
 -- the lines of what was found
 abbrev pub TellsSearched : FoundSegment → Status → List ℕ → Type 0
-TellsSearched segment said lines = (said ≡ found_status segment.searched.found) × (lines ≡ forced_text segment.searched.forced ++ found_text segment.searched.found)
+TellsSearched segment said lines = (said ≡ found_status segment.searched.found) × (lines ≡ searched_text segment.searched)
 
 -- the witness that was found, if one was
 abbrev pub found_witness : Found → Option Witness
 found_witness (Yes witness count) = Some witness
 found_witness (GaveUp count) = None
 found_witness (Refuted count object) = None
+found_witness (Impossible count number) = None
 found_witness (OutOfTime count after) = None
 
 -- ---- what is held next
@@ -194,6 +195,8 @@ LeavesWhereFound (Yes witness count) None P = ⊥
 LeavesWhereFound (GaveUp count) (Some left) P = ⊥
 LeavesWhereFound (GaveUp count) None P = Unit {0}
 LeavesWhereFound (Refuted count object) (Some left) P = ⊥
+LeavesWhereFound (Impossible count number) (Some left) P = ⊥
 LeavesWhereFound (Refuted count object) None P = Unit {0}
+LeavesWhereFound (Impossible count number) None P = Unit {0}
 LeavesWhereFound (OutOfTime count after) (Some left) P = ⊥
 LeavesWhereFound (OutOfTime count after) None P = Unit {0}

@@ -15,7 +15,8 @@ use Rattle.kmipa_check.specs.declared.auditing.AuditRecords.{AuditRecords}
 use Rattle.kmipa_check.specs.declared.segment.Left.{Left}
 use Rattle.kmipa_check.specs.declared.verdict.Verdict.{Verdict}
 use Rattle.kmipa_runs.specs.Dates.{TellsSecond}
-use Rattle.kmipa_runs.specs.Lines.{line, yes_line, PrintsFault, PrintsVerdict}
+use Rattle.kmipa_stream.specs.declared.tally.Tally.{Tally}
+use Rattle.kmipa_runs.specs.Lines.{line, yes_text, PrintsFault, PrintsVerdict, TalliesRecorded}
 use Rattle.kmipa_runs.specs.declared.status.Status.{Status}
 use Rattle.kmipa_runs.specs.declared.status.Status.TheVariants as status
 use Rattle.kmipa_segments.specs.declared.leaving.Segment.{Segment}
@@ -83,14 +84,16 @@ if_asked true left = left
 if_asked false left = None
 
 -- of a verdict that leaves nothing, or of which nothing is asked for, its lines, and nothing is made
-abbrev pub TellsChecked : List MarkOf → List TurnOf → Verdict → Option Left → Status → List ℕ → List ℕ → Type 0
-TellsChecked marks turns verdict None said lines made = PrintsVerdict marks turns verdict said lines × (made ≡ [])
-TellsChecked marks turns verdict (Some left) said lines made = TellsLeft yes_line left said lines made
+abbrev pub TellsChecked : List MarkOf → DeclarationOf → List TurnOf → Verdict → Option Left → Status → List ℕ → List ℕ → Type 0
+TellsChecked marks declared turns verdict None said lines made = PrintsVerdict marks declared turns verdict said lines × (made ≡ [])
+TellsChecked marks declared turns verdict (Some left) said lines made =
+    (tally : Option Tally) × TalliesRecorded marks declared turns tally × TellsLeft (yes_text tally) left said lines made
 
 -- what is made and printed of a segment that was checked
 abbrev pub TellsSegment : Bool → Segment → Status → List ℕ → List ℕ → Type 0
 TellsSegment leaves segment said lines made =
-    TellsChecked (transcript_of segment.records.transcript) (witness_of segment.records.witness) segment.checked.verdict (if_asked leaves segment.checked.left) said lines made
+    TellsChecked (transcript_of segment.records.transcript) (declaration_of segment.records.declaration) (witness_of segment.records.witness) segment.checked.verdict
+    (if_asked leaves segment.checked.left) said lines made
 
 -- and of a fault its own line alone, and nothing is made
 abbrev pub PrintsSegment : Bool → Result Segment AuditFault → Status → List ℕ → List ℕ → Type 0

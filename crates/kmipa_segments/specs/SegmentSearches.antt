@@ -15,9 +15,9 @@ use Rattle.kmipa_check.specs.declared.fault.CheckFault.{CheckFault}
 use Rattle.kmipa_check.specs.declared.segment.Left.{Left}
 use Rattle.kmipa_search.specs.Found.{Finds, FindsIn, HasDecided}
 use Rattle.kmipa_search.specs.declared.found.Found.{Found}
-use Rattle.kmipa_search.specs.declared.found.Found.TheVariants.{Yes, GaveUp, Refuted, OutOfTime}
+use Rattle.kmipa_search.specs.declared.found.Found.TheVariants.{Yes, GaveUp, Refuted, Impossible, OutOfTime}
 use Rattle.kmipa_runs.specs.Lines.{PrintsFault}
-use Rattle.kmipa_runs.specs.Searches.{found_text, forced_text, IsForcedTold, Makes, PrintsSearch, SearchFails, SearchStops}
+use Rattle.kmipa_runs.specs.Searches.{IsForcedTold, Makes, PrintsSearch, SearchFails, SearchStops, TalliesFound, searched_text}
 use Rattle.kmipa_runs.specs.declared.searched.Searched.{Searched}
 use Rattle.kmipa_runs.specs.declared.status.Status.{Status}
 use Rattle.kmipa_runs.specs.declared.status.Status.TheVariants as status
@@ -62,7 +62,9 @@ FindsSince marks declared since seconds budget (GaveUp count) None = (count ≤ 
     × ((calls : List CallOf) × AreCalls marks calls
     × (GrantsNothing (grants_declared declared) → HasDecidedSince calls since budget count → IsExplainedSince marks declared since → ⊥))
 FindsSince marks declared since seconds budget (Refuted count object) (Some left) = ⊥
+FindsSince marks declared since seconds budget (Impossible count number) (Some left) = ⊥
 FindsSince marks declared since seconds budget (Refuted count object) None = (count ≤ budget) × (IsExplainedSince marks declared since → ⊥)
+FindsSince marks declared since seconds budget (Impossible count number) None = (count ≤ budget) × (IsExplainedSince marks declared since → ⊥)
 FindsSince marks declared since seconds budget (OutOfTime count after) (Some left) = ⊥
 FindsSince marks declared since seconds budget (OutOfTime count after) None = FindsIn seconds marks declared budget (OutOfTime count after)
 
@@ -70,6 +72,7 @@ FindsSince marks declared since seconds budget (OutOfTime count after) None = Fi
 abbrev pub SearchesSegment : List MarkOf → DeclarationOf → Option ℤ → ℕ → ℕ → Bool → Result FoundSegment CheckFault → Type 0
 SearchesSegment marks declared since seconds budget asked (Ok segment) =
     IsForcedTold marks asked segment.searched.forced × FindsSince marks declared since seconds budget segment.searched.found segment.left
+    × TalliesFound marks declared segment.searched.found segment.searched.tally
 SearchesSegment marks declared since seconds budget asked (Err fault) = SearchStops marks fault
 
 -- the bytes are records of which a search found this
@@ -100,7 +103,7 @@ pub record MakesWhenDone (found : Found) (said : Status) (made : List ℕ) : Typ
 -- what is made and printed of what was found and of what is left: the declaration of this and its line behind the lines of that
 abbrev pub TellsBoth : Searched → Left → Status → List ℕ → List ℕ → List ℕ → Type 0
 TellsBoth searched left said lines made left_made =
-    TellsLeft (forced_text searched.forced ++ found_text searched.found) left said lines left_made × MakesWhenDone searched.found said made
+    TellsLeft (searched_text searched) left said lines left_made × MakesWhenDone searched.found said made
 
 -- where nothing is left, or nothing is asked for, what is made and printed of the search alone
 abbrev pub TellsFound : FoundSegment → Option Left → Status → List ℕ → List ℕ → List ℕ → Type 0

@@ -4,8 +4,9 @@ ghost use Rattle.std.specs.Prelude.{◌≡◌};
 ghost use Rattle.std.specs.Option.{ForSome};
 ghost use Rattle.kmipa_store.specs.States.{state_of_journal};
 ghost use Rattle.kmipa_record.specs.Declarations.{declaration_of};
-ghost use Rattle.kmipa_check.specs.Opening.{opened_by};
+ghost use Rattle.kmipa_check.specs.Opening.{StandsAsOpened};
 
+use crate::asked::NextSearch;
 use crate::next::{NextSegment, Unjudged, check_next_inputs, search_next_input};
 use crate::segment_search::{FoundSegment, found_witness};
 use kmipa_check::{AuditFault, Left};
@@ -31,7 +32,7 @@ pub struct Chain {
     // A ledger that stands as the declaration that is held opens it, where one is kept.
     pub(crate) ledger: Option<Journal>,
     ghost stands: { ForSome ledger (λ own.
-        (state_of_journal own).now ≡ opened_by (declaration_of held.declaration).entries) },
+        StandsAsOpened (state_of_journal own).now (declaration_of held.declaration).entries) },
 }
 
 impl Chain {
@@ -101,7 +102,7 @@ impl Chain {
         ensures prints { (outcome : Result NextSegment Unjudged)
             × ((t w : List ℕ) → IsFileOf t transcript.new → IsFileOf w witness.new
             → ChecksNext self.old self.new.links name.now t w (is_failed transcript.new) (is_failed witness.new) outcome)
-            × TellsJudged TellsChecked outcome result (appended_bytes out.old.items out.new.items) }
+            × TellsJudged (TellsChecked self.old.held) outcome result (appended_bytes out.old.items out.new.items) }
         // Status 0 is answered only of a segment that is linked behind those before it, goes on from what was held,
         // and joins them; what it leads to is held then.
         ensures goes_on { result ≡ Ok Status.Done
@@ -120,13 +121,12 @@ impl Chain {
         }
     }
 
-    /// Judges the next segment by a witness that is searched for with at most `budget` steps, in the same way.
+    /// Judges the next segment by a witness that is searched for, in the same way.
     pub fn search_next<R: Read, W: Watch>(
         &mut self,
         alloc: Global,
-        name: &str,
+        next: NextSearch<'_>,
         transcript: &mut Input<R>,
-        budget: u64,
         watch: &mut W,
         out: &mut Vec<u8>,
     ) -> Result<Status, Unjudged>
@@ -135,16 +135,16 @@ impl Chain {
         // What is printed tells what a search answers of whatever the input may be, or memory ran out.
         ensures prints { (outcome : Result FoundSegment Unjudged)
             × ((t : List ℕ) → IsFileOf t transcript.new
-            → SearchesNext self.old self.new.links name.now t (is_failed transcript.new)
-            (W.seconds watch.old) budget outcome)
+            → SearchesNext self.old self.new.links next.entry.name.now t (is_failed transcript.new)
+            (W.seconds watch.old) next.entry.budget outcome)
             × TellsJudged TellsSearched outcome result (appended_bytes out.old.items out.new.items) }
         ensures goes_on { result ≡ Ok Status.Done
-            → GoesOnSomehow self.old self.new name.now (came_of transcript.new) × IsTrue (is_ended transcript.new) }
+            → GoesOnSomehow self.old self.new next.entry.name.now (came_of transcript.new) × IsTrue (is_ended transcript.new) }
         ensures kept { result ≢ Ok Status.Done → (self.new.held ≡ self.old.held) × (self.new.witness ≡ None) }
         ensures declared { AreDeclared (declaration_of self.new.held.declaration) }
         ensures appends { StartsWith out.new.items out.old.items }
     {
-        match search_next_input(alloc, self, name, transcript, budget, watch) {
+        match search_next_input(alloc, self, next, transcript, watch) {
             Ok(segment) => Ok(self.take_found(alloc, segment, out)),
             Err(unjudged) => {
                 self.witness = None;
@@ -159,9 +159,10 @@ impl Chain {
         requires leaves { LeavesAtYes segment.checked.verdict segment.checked.left
             (λ left. AreDeclared (declaration_of left.declaration)) }
         requires stands { IfSome segment.ledger (λ own. IfSome segment.checked.left (λ left.
-            (state_of_journal own).now ≡ opened_by (declaration_of left.declaration).entries)) }
-        ensures prints { PrintsVerdict (transcript_of segment.transcript) (witness_of segment.witness)
-            segment.checked.verdict result (appended_bytes out.old.items out.new.items)
+            StandsAsOpened (state_of_journal own).now (declaration_of left.declaration).entries)) }
+        ensures prints { PrintsVerdict (transcript_of segment.transcript)
+            (declaration_of self.old.held.declaration) (witness_of segment.witness) segment.checked.verdict
+            result (appended_bytes out.old.items out.new.items)
             ⊎ IsSilent result (appended_bytes out.old.items out.new.items) }
         ensures taken { result ≡ Status.Done → (segment.checked.left ≡ Some self.new.held)
             × (self.new.witness ≡ Some segment.witness) }
@@ -177,7 +178,14 @@ impl Chain {
             ledger,
         } = segment;
         self.witness = None;
-        match report(alloc, &checked.verdict, &transcript, &witness, out) {
+        match report(
+            alloc,
+            &checked.verdict,
+            &transcript,
+            &self.held.declaration,
+            &witness,
+            out,
+        ) {
             Status::Done => self.hold(checked.left, Some(witness), ledger),
             status => status,
         }
@@ -214,7 +222,7 @@ impl Chain {
     ) -> Status
         requires declared { IsSomeDeclared left }
         requires stands { IfSome ledger (λ own. IfSome left (λ left.
-            (state_of_journal own).now ≡ opened_by (declaration_of left.declaration).entries)) }
+            StandsAsOpened (state_of_journal own).now (declaration_of left.declaration).entries)) }
         ensures done { result ≡ Status.Done }
         ensures holds { left ≡ Some self.new.held }
         ensures keeps { self.new.witness ≡ witness }

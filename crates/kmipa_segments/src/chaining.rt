@@ -18,6 +18,7 @@ ghost use Rattle.kmipa_segments.specs.declared.comparing.Compared.{Compared};
 ghost use Rattle.kmipa_segments.specs.declared.next.NextSegment.{NextSegment};
 ghost use Rattle.kmipa_segments.specs.declared.segment_search.FoundSegment.{FoundSegment};
 
+use crate::asked::NextSearch;
 use crate::chain::Chain;
 use crate::comparing::{compare_input, compared_lines};
 use crate::gaps::gap_lines;
@@ -71,7 +72,7 @@ pub fn chain_check<R: Read>(
     ensures prints { (outcome : Result NextSegment Unjudged)
         × ((t w : List ℕ) → IsFileOf t transcript.new → IsFileOf w witness.new
         → ChecksNext chain.old chain.new.links name.now t w (is_failed transcript.new) (is_failed witness.new) outcome)
-        × (PrintsJudged TellsChecked name.now outcome result (appended_bytes out.old.items out.new.items)
+        × (PrintsJudged (TellsChecked chain.old.held) name.now outcome result (appended_bytes out.old.items out.new.items)
         ⊎ IsSilent result (appended_bytes out.old.items out.new.items)) }
     // Status 0 is answered only where the chain goes on with what came of this segment.
     ensures goes_on { result ≡ Status.Done
@@ -91,13 +92,12 @@ pub fn chain_check<R: Read>(
     }
 }
 
-/// Judges the next segment of a chain by a witness that is searched for with at most `budget` steps, in the same way.
+/// Judges the next segment of a chain by a witness that is searched for, in the same way.
 pub fn chain_search<R: Read, W: Watch>(
     alloc: Global,
     chain: &mut Chain,
-    name: &str,
+    next: NextSearch<'_>,
     transcript: &mut Input<R>,
-    budget: u64,
     watch: &mut W,
     out: &mut Vec<u8>,
 ) -> Status
@@ -105,24 +105,24 @@ pub fn chain_search<R: Read, W: Watch>(
     requires transcript { came_of transcript.old ≡ [] }
     ensures prints { (outcome : Result FoundSegment Unjudged)
         × ((t : List ℕ) → IsFileOf t transcript.new
-        → SearchesNext chain.old chain.new.links name.now t (is_failed transcript.new)
-        (W.seconds watch.old) budget outcome)
-        × (PrintsJudged TellsSearched name.now outcome result (appended_bytes out.old.items out.new.items)
+        → SearchesNext chain.old chain.new.links next.entry.name.now t (is_failed transcript.new)
+        (W.seconds watch.old) next.entry.budget outcome)
+        × (PrintsJudged TellsSearched next.entry.name.now outcome result (appended_bytes out.old.items out.new.items)
         ⊎ IsSilent result (appended_bytes out.old.items out.new.items)) }
     ensures goes_on { result ≡ Status.Done
         → IsNextOf chain.old chain.new
-        (record { name = name.now; transcript = came_of transcript.new; witness = None })
+        (record { name = next.entry.name.now; transcript = came_of transcript.new; witness = None })
         × IsTrue (is_ended transcript.new) }
     // Then chain_witness makes a witness by which this segment goes on; behind a no it makes none.
-    ensures kept { result ≡ Status.Done → IsKeptNext chain.old chain.new name.now (came_of transcript.new) }
+    ensures kept { result ≡ Status.Done → IsKeptNext chain.old chain.new next.entry.name.now (came_of transcript.new) }
     ensures let_go { result ≢ Status.Done → (result ≡ Status.Failed) ⊎ (chain.new.witness ≡ None) }
     ensures declared { AreDeclared (declaration_of chain.new.held.declaration) }
     ensures appends { StartsWith out.new.items out.old.items }
 {
     let mut told = Vec::new(alloc);
-    match chain.search_next(alloc, name, transcript, budget, watch, &mut told) {
-        Ok(status) => append_named(alloc, name, &told, status, out),
-        Err(unjudged) => tell_unjudged(alloc, name, &unjudged, out),
+    match chain.search_next(alloc, next, transcript, watch, &mut told) {
+        Ok(status) => append_named(alloc, next.name, &told, status, out),
+        Err(unjudged) => tell_unjudged(alloc, next.name, &unjudged, out),
     }
 }
 
@@ -181,6 +181,7 @@ pub fn chain_out_of_time(alloc: Global, name: &str, seconds: u64, out: &mut Vec<
     let searched = Searched {
         forced: None,
         found: Found::OutOfTime(0, seconds),
+        tally: None,
     };
     match searched_lines(alloc, &searched) {
         Ok(lines) => append_named(alloc, name, lines.text.as_bytes(), lines.status, out),

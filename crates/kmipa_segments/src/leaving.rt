@@ -1,6 +1,6 @@
 //! The check of a segment: its verdict, and at a yes the declaration with which the next segment goes on.
 
-ghost use Rattle.std.specs.Prelude.{◌≡◌, ◌≢◌, ◌<◌, ◌⊎◌, ◌++◌, ℕ, List, [], IsTrue, IfOk, IfSome, OnOk, MatchOption, Result, length, map, string_bytes};
+ghost use Rattle.std.specs.Prelude.{◌≡◌, ◌≢◌, ◌<◌, ◌⊎◌, ◌++◌, ℕ, List, [], IsTrue, IfOk, IfSome, OnOk, MatchOption, Option, Result, length, map, string_bytes};
 ghost use Rattle.std.specs.Io.{StartsWith, appended_bytes};
 ghost use Rattle.kmipa_ttlv.specs.Input.{came_of, is_ended, is_failed, IsFileOf};
 ghost use Rattle.kmipa_record.specs.Declarations.{declaration_of};
@@ -8,15 +8,18 @@ ghost use Rattle.kmipa_record.specs.Entries.{entry_of};
 ghost use Rattle.kmipa_record.specs.Transcripts.{transcript_of};
 ghost use Rattle.kmipa_record.specs.Witnesses.{witness_of};
 ghost use Rattle.kmipa_runs.specs.Knowing.{Known, KnowsSeals};
-ghost use Rattle.kmipa_runs.specs.Lines.{PrintsVerdict};
+ghost use Rattle.kmipa_stream.specs.declared.tally.Tally.{Tally};
+ghost use Rattle.kmipa_runs.specs.Lines.{PrintsVerdict, TalliesRecorded, yes_text};
 ghost use Rattle.kmipa_runs.specs.Statuses.{IsSilent};
 ghost use Rattle.kmipa_segments.specs.Leaving.{ChecksSegment, IsMomentText, IsTooLongAt, LeadsAsAsked, NoneTooLongBefore, PrintsLeft, PrintsSegment, PrintsUnwritten, TellsLeft, TellsSegment, TellsChecked, entry_line, unwritable_line};
 
+use crate::asked::{CheckOutput, SegmentAsked};
 use kmipa_check::{AuditFault, AuditRecords, Checked, Left, check_segment};
 use kmipa_record::{Declaration, Entry, RecordKind, is_too_long, write_declaration};
 use kmipa_runs::{
-    Answered, Lines, Status, append, date_text, fault_lines, read_known_records, report,
+    Answered, Lines, Status, append, date_text, fault_lines, read_known_records, report, yes_text,
 };
+use kmipa_stream::tally_of_records;
 use kmipa_ttlv::Input;
 use std::alloc::{AllocError, Global};
 use std::io::Read;
@@ -28,19 +31,17 @@ pub struct Segment {
     pub checked: Checked,
 }
 
-/// `check TRANSCRIPT DECLARATION WITNESS`, from a moment on (in seconds since 1970) where one is given, `--not-before DATE`: appends to `out` the
-/// lines of the verdict, or the line of the fault that stands in their place, and answers the status. Where the declaration that is left is asked
-/// for, `--leaves OUT`, it is at a yes appended to `made`, as a file, and the lines tell of it, or, where no bytes are that declaration, why; at
-/// every other status than `Done` nothing is made. Where memory runs out nothing is appended to either, and the status is `Failed`.
+/// `check TRANSCRIPT DECLARATION WITNESS`, from a moment on where one is given, `--not-before DATE`: appends the lines of the verdict, or the line
+/// of the fault that stands in their place, and answers the status. Where the declaration that is left is asked for, `--leaves OUT`, it is at a yes
+/// appended, as a file, and the lines tell of it, or, where no bytes are that declaration, why; at every other status than `Done` nothing is made.
+/// Where memory runs out nothing is appended, and the status is `Failed`.
 pub fn segment_run<R: Read>(
     alloc: Global,
     transcript: &mut Input<R>,
     declaration: &mut Input<R>,
     witness: &mut Input<R>,
-    since: Option<i64>,
-    leaves: bool,
-    out: &mut Vec<u8>,
-    made: &mut Vec<u8>,
+    asked: SegmentAsked,
+    out: &mut CheckOutput,
 ) -> Answered
     requires transcript { came_of transcript.old ≡ [] }
     requires declaration { came_of declaration.old ≡ [] }
@@ -48,31 +49,31 @@ pub fn segment_run<R: Read>(
     // What is made and printed tells what a check answers of whatever the inputs may be, or memory ran out.
     ensures prints { (outcome : Result Segment AuditFault)
         × ((t d w : List ℕ) → IsFileOf t transcript.new → IsFileOf d declaration.new → IsFileOf w witness.new
-        → ChecksSegment t d w (is_failed transcript.new) (is_failed declaration.new) (is_failed witness.new) since
+        → ChecksSegment t d w (is_failed transcript.new) (is_failed declaration.new) (is_failed witness.new) asked.since
         outcome)
-        × (PrintsSegment leaves outcome result.status (appended_bytes out.old.items out.new.items)
-        (appended_bytes made.old.items made.new.items)
-        ⊎ (IsSilent result.status (appended_bytes out.old.items out.new.items)
-        × (appended_bytes made.old.items made.new.items ≡ []))) }
+        × (PrintsSegment asked.leaves outcome result.status (appended_bytes out.old.lines.items out.new.lines.items)
+        (appended_bytes out.old.left.items out.new.left.items)
+        ⊎ (IsSilent result.status (appended_bytes out.old.lines.items out.new.lines.items)
+        × (appended_bytes out.old.left.items out.new.left.items ≡ []))) }
     // Status 0 is answered only where the bytes that came, to the ends that were seen, are accepted from the
     // moment on; and where it is asked for, what they lead to is made.
     ensures leads { result.status ≡ Status.Done
-        → LeadsAsAsked leaves (came_of transcript.new) (came_of declaration.new) (came_of witness.new) since
-        (appended_bytes made.old.items made.new.items)
+        → LeadsAsAsked asked.leaves (came_of transcript.new) (came_of declaration.new) (came_of witness.new) asked.since
+        (appended_bytes out.old.left.items out.new.left.items)
         × IsTrue (is_ended transcript.new) × IsTrue (is_ended declaration.new) × IsTrue (is_ended witness.new) }
-    ensures nothing { result.status ≢ Status.Done → made.new.items ≡ made.old.items }
-    ensures appends { StartsWith out.new.items out.old.items }
-    ensures makes { StartsWith made.new.items made.old.items }
+    ensures nothing { result.status ≢ Status.Done → out.new.left.items ≡ out.old.left.items }
+    ensures appends { StartsWith out.new.lines.items out.old.lines.items }
+    ensures makes { StartsWith out.new.left.items out.old.left.items }
     // Behind each verdict stands what the transcript is known by.
     ensures known { KnowsSeals (came_of transcript.new) result.status result.head }
 {
-    match check_inputs(alloc, transcript, declaration, witness, since) {
+    match check_inputs(alloc, transcript, declaration, witness, asked.since) {
         Ok(segment) => Answered {
-            status: tell_segment(alloc, &segment, leaves, out, made),
+            status: tell_segment(alloc, &segment, asked.leaves, &mut out.lines, &mut out.left),
             head: segment.records.transcript.head,
         },
         Err(fault) => Answered {
-            status: append(fault_lines(alloc, &fault), out),
+            status: append(fault_lines(alloc, &fault), &mut out.lines),
             head: None,
         },
     }
@@ -138,7 +139,8 @@ fn tell_segment(
 
 /// The same where what is left is asked for.
 fn tell_checked(alloc: Global, segment: &Segment, out: &mut Vec<u8>, made: &mut Vec<u8>) -> Status
-    ensures tells { TellsChecked (transcript_of segment.now.records.transcript) (witness_of segment.now.records.witness)
+    ensures tells { TellsChecked (transcript_of segment.now.records.transcript)
+        (declaration_of segment.now.records.declaration) (witness_of segment.now.records.witness)
         segment.now.checked.verdict segment.now.checked.left
         result (appended_bytes out.old.items out.new.items) (appended_bytes made.old.items made.new.items)
         ⊎ (IsSilent result (appended_bytes out.old.items out.new.items)
@@ -148,15 +150,35 @@ fn tell_checked(alloc: Global, segment: &Segment, out: &mut Vec<u8>, made: &mut 
     ensures makes { StartsWith made.new.items made.old.items }
 {
     match &segment.checked.left {
-        Some(left) => tell_left(alloc, "yes\n", left, out, made),
+        Some(left) => match yes_lines(alloc, segment) {
+            Ok(text) => tell_left(alloc, text.as_str(), left, out, made),
+            Err(_) => Status::Failed,
+        },
         None => tell_verdict(alloc, segment, out),
     }
+}
+
+/// The lines of a yes on a segment.
+fn yes_lines(alloc: Global, segment: &Segment) -> Result<String, AllocError>
+    ensures { IfOk result (λ text. (tally : Option Tally)
+        × TalliesRecorded (transcript_of segment.now.records.transcript)
+        (declaration_of segment.now.records.declaration) (witness_of segment.now.records.witness) tally
+        × (string_bytes text ≡ yes_text tally)) }
+{
+    let records = &segment.records;
+    let tally = tally_of_records(
+        alloc,
+        &records.transcript,
+        &records.declaration,
+        &records.witness.turns,
+    )?;
+    yes_text(alloc, tally)
 }
 
 /// Appends the lines of the verdict.
 fn tell_verdict(alloc: Global, segment: &Segment, out: &mut Vec<u8>) -> Status
     ensures prints { PrintsVerdict (transcript_of segment.now.records.transcript)
-        (witness_of segment.now.records.witness)
+        (declaration_of segment.now.records.declaration) (witness_of segment.now.records.witness)
         segment.now.checked.verdict
         result (appended_bytes out.old.items out.new.items)
         ⊎ IsSilent result (appended_bytes out.old.items out.new.items) }
@@ -166,6 +188,7 @@ fn tell_verdict(alloc: Global, segment: &Segment, out: &mut Vec<u8>) -> Status
         alloc,
         &segment.checked.verdict,
         &segment.records.transcript,
+        &segment.records.declaration,
         &segment.records.witness,
         out,
     )

@@ -2,6 +2,7 @@
 //! are compared with what is left.
 #![tactic(auto)]
 
+mod asked;
 mod chain;
 mod chaining;
 mod comparing;
@@ -13,6 +14,7 @@ mod next;
 mod parts;
 mod segment_search;
 
+pub use asked::{CheckOutput, NextSearch, SearchAsked, SearchOutput, SegmentAsked};
 pub use chain::Chain;
 pub use chaining::{
     chain_begin, chain_check, chain_compare, chain_end, chain_out_of_time, chain_search,

@@ -5,9 +5,10 @@ ghost use Rattle.kmipa_ttlv.specs.Input.{came_of, is_ended, is_failed, IsFileOf}
 ghost use Rattle.kmipa_store.specs.States.{state_of_journal};
 ghost use Rattle.kmipa_record.specs.Declarations.{AreDeclared, declaration_of};
 ghost use Rattle.kmipa_record.specs.Transcripts.{transcript_of};
-ghost use Rattle.kmipa_check.specs.Opening.{opened_by};
+ghost use Rattle.kmipa_check.specs.Opening.{StandsAsOpened};
 ghost use Rattle.kmipa_segments.specs.Chains.{AreReadNext, ChecksNext, IsUnreadNext, SearchesNext};
 
+use crate::asked::{NextSearch, SearchAsked, SegmentAsked};
 use crate::chain::Chain;
 use crate::segment_search::{FoundSegment, search_segment};
 use kmipa_check::{AuditFault, Checked, check_segment_on};
@@ -55,7 +56,7 @@ pub fn check_next_inputs<R: Read>(
         result }
     ensures ended { OnOk result (IsTrue (is_ended transcript.new) × IsTrue (is_ended witness.new)) }
     ensures stands { IfOk result (λ segment. IfSome segment.ledger (λ own. IfSome segment.checked.left (λ left.
-        (state_of_journal own).now ≡ opened_by (declaration_of left.declaration).entries))) }
+        StandsAsOpened (state_of_journal own).now (declaration_of left.declaration).entries))) }
     ensures held { chain.new.held ≡ chain.old.held }
 {
     let transcript = match read_linked(alloc, &mut chain.links, name, transcript) {
@@ -84,34 +85,33 @@ pub fn check_next_inputs<R: Read>(
 pub fn search_next_input<R: Read, W: Watch>(
     alloc: Global,
     chain: &mut Chain,
-    name: &str,
+    next: NextSearch<'_>,
     transcript: &mut Input<R>,
-    budget: u64,
     watch: &mut W,
 ) -> Result<FoundSegment, Unjudged>
     requires declared { AreDeclared (declaration_of chain.old.held.declaration) }
     requires transcript { came_of transcript.old ≡ [] }
     ensures searches { (t : List ℕ) → IsFileOf t transcript.new
-        → SearchesNext chain.old chain.new.links name.now t (is_failed transcript.new)
-        (W.seconds watch.old) budget result }
+        → SearchesNext chain.old chain.new.links next.entry.name.now t (is_failed transcript.new)
+        (W.seconds watch.old) next.entry.budget result }
     ensures ended { OnOk result (IsTrue (is_ended transcript.new)) }
     ensures held { chain.new.held ≡ chain.old.held }
 {
-    let transcript = match read_linked(alloc, &mut chain.links, name, transcript) {
+    let transcript = match read_linked(alloc, &mut chain.links, next.name, transcript) {
         Ok(transcript) => transcript,
         Err(unjudged) => return Err(unjudged),
     };
     let held = &chain.held;
-    match search_segment(
-        alloc,
-        &transcript,
-        &held.declaration,
-        held.until,
-        budget,
-        false,
-        false,
-        watch,
-    ) {
+    let asked = SearchAsked {
+        budget: next.budget,
+        forced: false,
+        open: false,
+        segment: SegmentAsked {
+            since: held.until,
+            leaves: false,
+        },
+    };
+    match search_segment(alloc, &transcript, &held.declaration, asked, watch) {
         Ok(segment) => Ok(segment),
         Err(fault) => Err(Unjudged::Fault(AuditFault::Check(fault))),
     }

@@ -9,12 +9,13 @@ ghost use Rattle.kmipa_record.specs.Transcripts.{transcript_of};
 ghost use Rattle.kmipa_search.specs.Found.{Finds};
 ghost use Rattle.kmipa_search.specs.declared.found.Found.TheVariants.{Yes};
 ghost use Rattle.kmipa_runs.specs.Knowing.{Known, KnowsSeals};
-ghost use Rattle.kmipa_runs.specs.Searches.{IsForcedTold, Makes};
+ghost use Rattle.kmipa_runs.specs.Searches.{IsForcedTold, Makes, TalliesFound};
 ghost use Rattle.kmipa_runs.specs.Statuses.{IsSilent};
 ghost use Rattle.kmipa_segments.specs.Chains.{found_witness};
 ghost use Rattle.kmipa_segments.specs.Leaving.{LeadsAsAsked, if_asked};
 ghost use Rattle.kmipa_segments.specs.SegmentSearches.{PrintsSegmentSearch, SearchesSegment, SearchesSince, TellsBoth, TellsFound, found_alone};
 
+use crate::asked::{SearchAsked, SearchOutput};
 use crate::leaving::tell_left;
 use kmipa_check::{AuditFault, CheckFault, Left, check_segment};
 use kmipa_record::{
@@ -25,6 +26,7 @@ use kmipa_runs::{
     Answered, Searched, Status, append, fault_lines, search_records, searched_lines, tell_searched,
 };
 use kmipa_search::{Found, Watch};
+use kmipa_stream::Tally;
 use kmipa_ttlv::Input;
 use std::alloc::Global;
 use std::io::Read;
@@ -43,68 +45,73 @@ pub(crate) struct KnownSegment {
     pub head: Option<Head>,
 }
 
-/// `search TRANSCRIPT DECLARATION OUT`, from a moment on (in seconds since 1970) where one is given, `--not-before DATE`: looks for a witness
-/// with at most `budget` steps, with `open` as `search_run` does. Appends to `out` the lines of what was found, with `forced` before them
-/// whether the transcript is forced, or the line of the fault that stands in their place, and answers the status. A witness that was found is appended to `made`, as a file; where
-/// it takes a call below the moment, it ends as a search that gave up does. Where the declaration that is left is asked for, `--leaves OUT`,
-/// it is appended to `left`, as a file, and the lines tell of it, or, where no bytes are that declaration, why. At every other status than
-/// `Done` nothing is made. Where memory runs out nothing is appended to any, and the status is `Failed`. The watcher is reported of each step.
+/// A witness that was found in so many steps, whether the transcript is forced, where that was asked for, and what became of the items, where
+/// that is told.
+#[derive(Drop)]
+struct FoundWitness {
+    forced: Option<bool>,
+    witness: Witness,
+    count: u64,
+    tally: Option<Tally>,
+}
+
+/// `search TRANSCRIPT DECLARATION OUT`, from a moment on where one is given, `--not-before DATE`: looks for a witness as it is asked for. Appends
+/// the lines of what was found, with `forced` before them whether the transcript is forced, or the line of the fault that stands in their place, and
+/// answers the status. A witness that was found is made, as a file; where it takes a call below the moment, it ends as a search that gave up does.
+/// Where the declaration that is left is asked for, `--leaves OUT`, it is made, as a file, and the lines tell of it, or, where no bytes are that
+/// declaration, why. At every other status than `Done` nothing is made. Where memory runs out nothing is appended to any, and the status is `Failed`.
+/// The watcher is reported of each step.
 pub fn search_segment_run<R: Read, W: Watch>(
     alloc: Global,
     transcript: &mut Input<R>,
     declaration: &mut Input<R>,
-    since: Option<i64>,
-    budget: u64,
-    forced: bool,
-    open: bool,
-    leaves: bool,
+    asked: SearchAsked,
     watch: &mut W,
-    out: &mut Vec<u8>,
-    made: &mut Vec<u8>,
-    left: &mut Vec<u8>,
+    out: &mut SearchOutput,
 ) -> Answered
     requires transcript { came_of transcript.old ≡ [] }
     requires declaration { came_of declaration.old ≡ [] }
     // What is made and printed tells what a search answers of whatever the inputs may be, or memory ran out.
     ensures prints { (outcome : Result FoundSegment AuditFault)
         × ((t d : List ℕ) → IsFileOf t transcript.new → IsFileOf d declaration.new
-        → SearchesSince t d (is_failed transcript.new) (is_failed declaration.new) since
-        (W.seconds watch.old) budget forced outcome)
-        × (PrintsSegmentSearch leaves outcome result.status (appended_bytes out.old.items out.new.items)
-        (appended_bytes made.old.items made.new.items)
-        (appended_bytes left.old.items left.new.items)
-        ⊎ (IsSilent result.status (appended_bytes out.old.items out.new.items)
-        × (appended_bytes made.old.items made.new.items ≡ [])
-        × (appended_bytes left.old.items left.new.items ≡ []))) }
+        → SearchesSince t d (is_failed transcript.new) (is_failed declaration.new) asked.segment.since
+        (W.seconds watch.old) asked.budget asked.forced outcome)
+        × (PrintsSegmentSearch asked.segment.leaves outcome result.status
+        (appended_bytes out.old.lines.items out.new.lines.items)
+        (appended_bytes out.old.made.items out.new.made.items)
+        (appended_bytes out.old.left.items out.new.left.items)
+        ⊎ (IsSilent result.status (appended_bytes out.old.lines.items out.new.lines.items)
+        × (appended_bytes out.old.made.items out.new.made.items ≡ [])
+        × (appended_bytes out.old.left.items out.new.left.items ≡ []))) }
     // Status 0 is answered only where the bytes that came, to the ends that were seen, are accepted from the
     // moment on with the witness that is made; and where it is asked for, what they lead to is made.
     ensures leads { result.status ≡ Status.Done
-        → LeadsAsAsked leaves (came_of transcript.new) (came_of declaration.new)
-        (appended_bytes made.old.items made.new.items) since
-        (appended_bytes left.old.items left.new.items) × IsTrue (is_ended transcript.new)
+        → LeadsAsAsked asked.segment.leaves (came_of transcript.new) (came_of declaration.new)
+        (appended_bytes out.old.made.items out.new.made.items) asked.segment.since
+        (appended_bytes out.old.left.items out.new.left.items) × IsTrue (is_ended transcript.new)
         × IsTrue (is_ended declaration.new) }
-    ensures nothing { result.status ≢ Status.Done → (made.new.items ≡ made.old.items) × (left.new.items ≡ left.old.items) }
-    ensures appends { StartsWith out.new.items out.old.items }
-    ensures makes { StartsWith made.new.items made.old.items × StartsWith left.new.items left.old.items }
+    ensures nothing { result.status ≢ Status.Done
+        → (out.new.made.items ≡ out.old.made.items) × (out.new.left.items ≡ out.old.left.items) }
+    ensures appends { StartsWith out.new.lines.items out.old.lines.items }
+    ensures makes { StartsWith out.new.made.items out.old.made.items
+        × StartsWith out.new.left.items out.old.left.items }
     // Behind each verdict stands what the transcript is known by.
     ensures known { KnowsSeals (came_of transcript.new) result.status result.head }
 {
-    match search_inputs(
-        alloc,
-        transcript,
-        declaration,
-        since,
-        budget,
-        forced,
-        open,
-        watch,
-    ) {
+    match search_inputs(alloc, transcript, declaration, asked, watch) {
         Ok(known) => Answered {
-            status: tell_segment(alloc, &known.segment, leaves, out, made, left),
+            status: tell_segment(
+                alloc,
+                &known.segment,
+                asked.segment.leaves,
+                &mut out.lines,
+                &mut out.made,
+                &mut out.left,
+            ),
             head: known.head,
         },
         Err(fault) => Answered {
-            status: append(fault_lines(alloc, &fault), out),
+            status: append(fault_lines(alloc, &fault), &mut out.lines),
             head: None,
         },
     }
@@ -115,17 +122,14 @@ fn search_inputs<R: Read, W: Watch>(
     alloc: Global,
     transcript: &mut Input<R>,
     declaration: &mut Input<R>,
-    since: Option<i64>,
-    budget: u64,
-    forced: bool,
-    open: bool,
+    asked: SearchAsked,
     watch: &mut W,
 ) -> Result<KnownSegment, AuditFault>
     requires transcript { came_of transcript.old ≡ [] }
     requires declaration { came_of declaration.old ≡ [] }
     ensures searches { (t d : List ℕ) → IsFileOf t transcript.new → IsFileOf d declaration.new
-        → SearchesSince t d (is_failed transcript.new) (is_failed declaration.new) since
-        (W.seconds watch.old) budget forced
+        → SearchesSince t d (is_failed transcript.new) (is_failed declaration.new) asked.segment.since
+        (W.seconds watch.old) asked.budget asked.forced
         (found_alone result) }
     ensures known { IfOk result (λ known. Known (came_of transcript.new) known.head) }
     ensures ended { OnOk result (IsTrue (is_ended transcript.new) × IsTrue (is_ended declaration.new)) }
@@ -138,16 +142,7 @@ fn search_inputs<R: Read, W: Watch>(
         Ok(declaration) => declaration,
         Err(fault) => return Err(AuditFault::Declaration(fault)),
     };
-    match search_segment(
-        alloc,
-        &transcript,
-        &declaration,
-        since,
-        budget,
-        forced,
-        open,
-        watch,
-    ) {
+    match search_segment(alloc, &transcript, &declaration, asked, watch) {
         Ok(segment) => Ok(KnownSegment {
             segment,
             head: transcript.head,
@@ -161,46 +156,53 @@ pub fn search_segment<W: Watch>(
     alloc: Global,
     transcript: &Transcript,
     declaration: &Declaration,
-    since: Option<i64>,
-    budget: u64,
-    forced: bool,
-    open: bool,
+    asked: SearchAsked,
     watch: &mut W,
 ) -> Result<FoundSegment, CheckFault>
     requires { AreDeclared (declaration_of declaration.now) }
     ensures { AreRecorded (transcript_of transcript.now)
-        → SearchesSegment (transcript_of transcript.now) (declaration_of declaration.now) since
-        (W.seconds watch.old) budget forced result }
+        → SearchesSegment (transcript_of transcript.now) (declaration_of declaration.now) asked.segment.since
+        (W.seconds watch.old) asked.budget asked.forced result }
 {
     let searched = match search_records(
         alloc,
         transcript,
         declaration,
-        budget,
-        forced,
-        open,
+        asked.budget,
+        asked.forced,
+        asked.open,
         watch,
     ) {
         Ok(searched) => searched,
         Err(fault) => return Err(fault),
     };
     let forced = searched.forced;
+    let tally = searched.tally;
     let found = searched.found;
     match found {
-        Found::Yes(witness, count) => go_on(
-            alloc,
-            transcript,
-            declaration,
-            since,
-            forced,
-            witness,
-            count,
-        ),
+        Found::Yes(witness, count) => {
+            let found = FoundWitness {
+                forced,
+                witness,
+                count,
+                tally,
+            };
+            go_on(alloc, transcript, declaration, asked.segment.since, found)
+        }
         Found::GaveUp(count) => Ok(gave_up(forced, count)),
         Found::Refuted(count, object) => Ok(FoundSegment {
             searched: Searched {
                 forced,
                 found: Found::Refuted(count, object),
+                tally: None,
+            },
+            left: None,
+        }),
+        Found::Impossible(count, call) => Ok(FoundSegment {
+            searched: Searched {
+                forced,
+                found: Found::Impossible(count, call),
+                tally: None,
             },
             left: None,
         }),
@@ -208,6 +210,7 @@ pub fn search_segment<W: Watch>(
             searched: Searched {
                 forced,
                 found: Found::OutOfTime(count, after),
+                tally: None,
             },
             left: None,
         }),
@@ -220,16 +223,22 @@ fn go_on(
     transcript: &Transcript,
     declaration: &Declaration,
     since: Option<i64>,
-    forced: Option<bool>,
-    witness: Witness,
-    count: u64,
+    found: FoundWitness,
 ) -> Result<FoundSegment, CheckFault>
     requires { AreDeclared (declaration_of declaration.now) }
     ensures { (seconds budget : ℕ) (asked : Bool) → AreRecorded (transcript_of transcript.now)
-        → IsForcedTold (transcript_of transcript.now) asked forced
-        → Finds (transcript_of transcript.now) (declaration_of declaration.now) budget (Yes witness count)
+        → IsForcedTold (transcript_of transcript.now) asked found.forced
+        → Finds (transcript_of transcript.now) (declaration_of declaration.now) budget (Yes found.witness found.count)
+        → TalliesFound (transcript_of transcript.now) (declaration_of declaration.now)
+        (Yes found.witness found.count) found.tally
         → SearchesSegment (transcript_of transcript.now) (declaration_of declaration.now) since seconds budget asked result }
 {
+    let FoundWitness {
+        forced,
+        witness,
+        count,
+        tally,
+    } = found;
     let checked = match check_segment(alloc, transcript, declaration, &witness, since) {
         Ok(checked) => checked,
         Err(fault) => return Err(fault),
@@ -240,6 +249,7 @@ fn go_on(
             searched: Searched {
                 forced,
                 found: Found::Yes(witness, count),
+                tally,
             },
             left: Some(left),
         }),
@@ -249,12 +259,13 @@ fn go_on(
 
 /// No witness was found that goes on from the moment.
 fn gave_up(forced: Option<bool>, count: u64) -> FoundSegment
-    ensures { result ≡ record { searched = record { forced = forced; found = Found.GaveUp count }; left = None } }
+    ensures { result ≡ record { searched = record { forced = forced; found = Found.GaveUp count; tally = None }; left = None } }
 {
     FoundSegment {
         searched: Searched {
             forced,
             found: Found::GaveUp(count),
+            tally: None,
         },
         left: None,
     }
@@ -266,7 +277,10 @@ pub fn found_witness(found: Found) -> Option<Witness>
 {
     match found {
         Found::Yes(witness, _) => Some(witness),
-        Found::GaveUp(_) | Found::Refuted(_, _) | Found::OutOfTime(_, _) => None,
+        Found::GaveUp(_)
+        | Found::Refuted(_, _)
+        | Found::Impossible(_, _)
+        | Found::OutOfTime(_, _) => None,
     }
 }
 
@@ -365,6 +379,7 @@ fn make_found(alloc: Global, found: &Found, made: &mut Vec<u8>) -> Result<(), Re
         Found::Yes(witness, _) => write_witness(alloc, witness, made),
         Found::GaveUp(_) => Ok(()),
         Found::Refuted(_, _) => Ok(()),
+        Found::Impossible(_, _) => Ok(()),
         Found::OutOfTime(_, _) => Ok(()),
     }
 }

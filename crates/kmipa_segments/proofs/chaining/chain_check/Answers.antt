@@ -10,7 +10,7 @@ pub returns-in-Ok-clause-prints : goal.returns-in-Ok-clause-prints
 returns-in-Ok-clause-prints g c =
     let same : c.deref.result.now ≡ c.check_next.new.out.items = search rules in
     let p = c.check_next.ensures.prints in
-    let T : NextSegment → Status → List ℕ → Type 0 = λ segment said lines. TellsChecked segment said lines in (
+    let T : NextSegment → Status → List ℕ → Type 0 = λ segment said lines. TellsChecked c.args.chain.now.held segment said lines in (
       p.0,
       p.1,
       judged_printed T c.args.name.now p.0 c.check_next.result c.append_named.result _ c.in-Ok.status c.deref.result.now c.new-told.result.items c.check_next.new.out.items c.in-Ok.is
@@ -20,7 +20,7 @@ returns-in-Ok-clause-prints g c =
 pub returns-clause-prints : goal.returns-clause-prints
 returns-clause-prints g c =
     let p = c.check_next.ensures.prints in
-    let T : NextSegment → Status → List ℕ → Type 0 = λ segment said lines. TellsChecked segment said lines in
+    let T : NextSegment → Status → List ℕ → Type 0 = λ segment said lines. TellsChecked c.args.chain.now.held segment said lines in
     (p.0, p.1, unjudged_printed T c.args.name.now p.0 c.check_next.result c.tell_unjudged.result _ c.in-Err.unjudged _ c.in-Err.is p.2 c.tell_unjudged.ensures.tells)
 
 pub returns-in-Ok-clause-goes_on : goal.returns-in-Ok-clause-goes_on

@@ -13,7 +13,7 @@ returns-in-Ok-clause-prints g c =
     let T : FoundSegment → Status → List ℕ → Type 0 = λ segment said lines. TellsSearched segment said lines in (
       p.0,
       p.1,
-      judged_printed T c.args.name.now p.0 c.search_next.result c.append_named.result _ c.in-Ok.status c.deref.result.now c.new-told.result.items c.search_next.new.out.items c.in-Ok.is
+      judged_printed T c.args.next.name.now p.0 c.search_next.result c.append_named.result _ c.in-Ok.status c.deref.result.now c.new-told.result.items c.search_next.new.out.items c.in-Ok.is
           c.new-told.ensures.items same p.2 c.append_named.ensures.named,
     )
 
@@ -21,18 +21,18 @@ pub returns-clause-prints : goal.returns-clause-prints
 returns-clause-prints g c =
     let p = c.search_next.ensures.prints in
     let T : FoundSegment → Status → List ℕ → Type 0 = λ segment said lines. TellsSearched segment said lines in
-    (p.0, p.1, unjudged_printed T c.args.name.now p.0 c.search_next.result c.tell_unjudged.result _ c.in-Err.unjudged _ c.in-Err.is p.2 c.tell_unjudged.ensures.tells)
+    (p.0, p.1, unjudged_printed T c.args.next.name.now p.0 c.search_next.result c.tell_unjudged.result _ c.in-Err.unjudged _ c.in-Err.is p.2 c.tell_unjudged.ensures.tells)
 
 pub returns-in-Ok-clause-goes_on : goal.returns-in-Ok-clause-goes_on
 returns-in-Ok-clause-goes_on g c = λ done.
-    let judged = was_done c.args.name.now _ c.in-Ok.status _ _ c.append_named.ensures.named done in
+    let judged = was_done c.args.next.name.now _ c.in-Ok.status _ _ c.append_named.ensures.named done in
     let went = c.search_next.ensures.goes_on cc in (
-      next_somehow c.args.chain.now c.search_next.new.self c.args.name.now (came_of c.search_next.new.transcript) went.0,
+      next_somehow c.args.chain.now c.search_next.new.self c.args.next.name.now (came_of c.search_next.new.transcript) went.0,
       went.1,
     )
 
 pub returns-in-Ok-clause-kept : goal.returns-in-Ok-clause-kept
 returns-in-Ok-clause-kept g c = λ done.
-    let judged = was_done c.args.name.now _ c.in-Ok.status _ _ c.append_named.ensures.named done in
+    let judged = was_done c.args.next.name.now _ c.in-Ok.status _ _ c.append_named.ensures.named done in
     let went = c.search_next.ensures.goes_on cc in
-    kept_next_somehow c.args.chain.now c.search_next.new.self c.args.name.now (came_of c.search_next.new.transcript) went.0
+    kept_next_somehow c.args.chain.now c.search_next.new.self c.args.next.name.now (came_of c.search_next.new.transcript) went.0

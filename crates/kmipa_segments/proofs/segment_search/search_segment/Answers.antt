@@ -1,10 +1,10 @@
-use Rattle.std.proofs.Common.{sym, subst, Ok}
+use Rattle.std.proofs.Common.{refl, sym, subst, Ok}
 use Rattle.kmipa_record.specs.Declarations.{declaration_of}
 use Rattle.kmipa_record.specs.Transcripts.{transcript_of}
-use Rattle.kmipa_search.specs.declared.found.Found.TheVariants.{Yes, GaveUp, Refuted, OutOfTime}
+use Rattle.kmipa_search.specs.declared.found.Found.TheVariants.{Yes, GaveUp, Refuted, Impossible, OutOfTime}
 use Rattle.kmipa_segments.specs.SegmentSearches.{SearchesSegment}
 use Rattle.kmipa_segments.specs.declared.segment_search.FoundSegment.{FoundSegment}
-use Rattle.kmipa_segments.proofs.SegmentSearchLemmas.{found_so, gives_up, refutes}
+use Rattle.kmipa_segments.proofs.SegmentSearchLemmas.{found_so, gives_up, never_explained, refutes, tallied_so}
 use Rattle.kmipa_segments.proofs.segment_search.search_segment.Goals as goal
 
 pub returns-in-Yes : goal.returns-in-Yes
@@ -12,19 +12,21 @@ returns-in-Yes g c = λ r.
     let marks = transcript_of c.args.transcript.now in
     let declared = declaration_of c.args.declaration.now in
     let searched = c.in-Ok.ensures r in
-    c.go_on.ensures (g.W.Watch.seconds c.args.watch.now) c.args.budget c.args.forced r searched.0
-    (found_so marks declared (g.W.Watch.seconds c.args.watch.now) c.args.budget c.in-Ok.searched.found (Yes c.in-Yes.witness c.in-Yes.count) c.in-Yes.is searched.1)
+    c.go_on.ensures (g.W.Watch.seconds c.args.watch.now) c.args.asked.budget c.args.asked.forced r searched.0
+    (found_so marks declared (g.W.Watch.seconds c.args.watch.now) c.args.asked.budget c.in-Ok.searched.found (Yes c.in-Yes.witness c.in-Yes.count) c.in-Yes.is searched.1)
+    (tallied_so marks declared c.in-Ok.searched.found (Yes c.in-Yes.witness c.in-Yes.count) c.in-Ok.searched.tally c.in-Yes.is searched.2)
 
 pub returns-in-GaveUp : goal.returns-in-GaveUp
 returns-in-GaveUp g c = λ r.
     let marks = transcript_of c.args.transcript.now in
     let declared = declaration_of c.args.declaration.now in
     let searched = c.in-Ok.ensures r in
-    let P : FoundSegment → Type 0 = λ s. SearchesSegment marks declared c.args.since (g.W.Watch.seconds c.args.watch.now) c.args.budget c.args.forced (Ok s) in
+    let P : FoundSegment → Type 0 = λ s. SearchesSegment marks declared c.args.asked.segment.since (g.W.Watch.seconds c.args.watch.now) c.args.asked.budget c.args.asked.forced (Ok s) in
     subst P (sym c.gave_up.ensures) (
       searched.0,
-      gives_up marks declared c.args.since c.in-GaveUp.count (g.W.Watch.seconds c.args.watch.now) c.args.budget r
-          (found_so marks declared (g.W.Watch.seconds c.args.watch.now) c.args.budget c.in-Ok.searched.found (GaveUp c.in-GaveUp.count) c.in-GaveUp.is searched.1),
+      gives_up marks declared c.args.asked.segment.since c.in-GaveUp.count (g.W.Watch.seconds c.args.watch.now) c.args.asked.budget r
+          (found_so marks declared (g.W.Watch.seconds c.args.watch.now) c.args.asked.budget c.in-Ok.searched.found (GaveUp c.in-GaveUp.count) c.in-GaveUp.is searched.1),
+      refl,
     )
 
 pub returns-in-Refuted : goal.returns-in-Refuted
@@ -33,8 +35,20 @@ returns-in-Refuted g c = λ r.
     let declared = declaration_of c.args.declaration.now in
     let searched = c.in-Ok.ensures r in (
       searched.0,
-      refutes marks declared c.args.since c.in-Refuted.count (g.W.Watch.seconds c.args.watch.now) c.args.budget c.in-Refuted.object
-          (found_so marks declared (g.W.Watch.seconds c.args.watch.now) c.args.budget c.in-Ok.searched.found (Refuted c.in-Refuted.count c.in-Refuted.object) c.in-Refuted.is searched.1),
+      refutes marks declared c.args.asked.segment.since c.in-Refuted.count (g.W.Watch.seconds c.args.watch.now) c.args.asked.budget c.in-Refuted.object
+          (found_so marks declared (g.W.Watch.seconds c.args.watch.now) c.args.asked.budget c.in-Ok.searched.found (Refuted c.in-Refuted.count c.in-Refuted.object) c.in-Refuted.is searched.1),
+      refl,
+    )
+
+pub returns-in-Impossible : goal.returns-in-Impossible
+returns-in-Impossible g c = λ r.
+    let marks = transcript_of c.args.transcript.now in
+    let declared = declaration_of c.args.declaration.now in
+    let searched = c.in-Ok.ensures r in (
+      searched.0,
+      never_explained marks declared c.args.asked.segment.since c.in-Impossible.count (g.W.Watch.seconds c.args.watch.now) c.args.asked.budget c.in-Impossible.call
+          (found_so marks declared (g.W.Watch.seconds c.args.watch.now) c.args.asked.budget c.in-Ok.searched.found (Impossible c.in-Impossible.count c.in-Impossible.call) c.in-Impossible.is searched.1),
+      refl,
     )
 
 pub returns-in-OutOfTime : goal.returns-in-OutOfTime
@@ -43,5 +57,6 @@ returns-in-OutOfTime g c = λ r.
     let declared = declaration_of c.args.declaration.now in
     let searched = c.in-Ok.ensures r in (
       searched.0,
-      found_so marks declared (g.W.Watch.seconds c.args.watch.now) c.args.budget c.in-Ok.searched.found (OutOfTime c.in-OutOfTime.count c.in-OutOfTime.after) c.in-OutOfTime.is searched.1,
+      found_so marks declared (g.W.Watch.seconds c.args.watch.now) c.args.asked.budget c.in-Ok.searched.found (OutOfTime c.in-OutOfTime.count c.in-OutOfTime.after) c.in-OutOfTime.is searched.1,
+      refl,
     )

@@ -13,25 +13,25 @@ returns-in-Ok-clause-prints g c = (Ok c.in-Ok.known.segment, c.in-Ok.ensures.sea
 
 pub returns-in-Err-clause-prints : goal.returns-in-Err-clause-prints
 returns-in-Err-clause-prints g c =
-    let kept = appended_bytes c.args.made.now.items c.args.made.now.items in
-    let none : kept ≡ [] = drop_of_length-le c.args.made.now.items (omega arith) in
-    let left = appended_bytes c.args.left.now.items c.args.left.now.items in
-    let no_left : left ≡ [] = drop_of_length-le c.args.left.now.items (omega arith) in (
+    let kept = appended_bytes c.args.out.now.made.items c.args.out.now.made.items in
+    let none : kept ≡ [] = drop_of_length-le c.args.out.now.made.items (omega arith) in
+    let left = appended_bytes c.args.out.now.left.items c.args.out.now.left.items in
+    let no_left : left ≡ [] = drop_of_length-le c.args.out.now.left.items (omega arith) in (
       Err c.in-Err.fault,
       c.in-Err.ensures.searches,
-      fault_ends_search c.args.leaves c.fault_lines.result c.in-Err.fault c.append.result
-          (appended_bytes c.args.out.now.items c.append.new.out.items) kept left none no_left c.fault_lines.ensures c.append.ensures.prints,
+      fault_ends_search c.args.asked.segment.leaves c.fault_lines.result c.in-Err.fault c.append.result
+          (appended_bytes c.args.out.now.lines.items c.append.new.out.items) kept left none no_left c.fault_lines.ensures c.append.ensures.prints,
     )
 
 pub returns-in-Ok-clause-leads : goal.returns-in-Ok-clause-leads
 returns-in-Ok-clause-leads g c = λ done.
     let t = c.search_inputs.new.transcript in
     let d = c.search_inputs.new.declaration in
-    let lines = appended_bytes c.args.out.now.items c.tell_segment.new.out.items in
-    let made = appended_bytes c.args.made.now.items c.tell_segment.new.made.items in
-    let left_made = appended_bytes c.args.left.now.items c.tell_segment.new.left.items in
+    let lines = appended_bytes c.args.out.now.lines.items c.tell_segment.new.out.items in
+    let made = appended_bytes c.args.out.now.made.items c.tell_segment.new.made.items in
+    let left_made = appended_bytes c.args.out.now.left.items c.tell_segment.new.left.items in
     let found = c.in-Ok.ensures.searches (came_of t) (came_of d) (itself t) (itself d) in (
-      done_found c.in-Ok.known.segment (came_of t) (came_of d) c.args.since (g.W.Watch.seconds c.args.watch.now) c.args.budget c.args.forced c.tell_segment.result lines made left_made found done c.args.leaves c.tell_segment.ensures.tells,
+      done_found c.in-Ok.known.segment (came_of t) (came_of d) c.args.asked.segment.since (g.W.Watch.seconds c.args.watch.now) c.args.asked.budget c.args.asked.forced c.tell_segment.result lines made left_made found done c.args.asked.segment.leaves c.tell_segment.ensures.tells,
       c.in-Ok.ensures.ended.0,
       c.in-Ok.ensures.ended.1,
     )
@@ -41,5 +41,5 @@ returns-in-Ok-clause-known g c = knows (came_of c.search_inputs.new.transcript) 
 
 pub returns-in-Err-clause-known : goal.returns-in-Err-clause-known
 returns-in-Err-clause-known g c =
-    refusal_knows (came_of c.search_inputs.new.transcript) c.fault_lines.result c.in-Err.fault c.append.result (appended_bytes c.args.out.now.items c.append.new.out.items) None
+    refusal_knows (came_of c.search_inputs.new.transcript) c.fault_lines.result c.in-Err.fault c.append.result (appended_bytes c.args.out.now.lines.items c.append.new.out.items) None
     c.fault_lines.ensures c.append.ensures.prints

@@ -1,8 +1,11 @@
-use Rattle.std.proofs.Common.{Ok, Err, refl, sym, subst}
+use Rattle.std.proofs.Common.{◌⊎◌, Ok, Err, refl, sym, subst}
+use Rattle.std.specs.Io.{appended_bytes}
 use Rattle.kmipa_ttlv.specs.Input.{came_of, is_failed}
 use Rattle.kmipa_ttlv.proofs.ReadLemmas.{itself}
 use Rattle.kmipa_links.specs.declared.links.Links.{Links}
-use Rattle.kmipa_segments.specs.Chains.{ChecksNext}
+use Rattle.kmipa_check.specs.declared.segment.Left.{Left}
+use Rattle.kmipa_runs.specs.Statuses.{IsSilent}
+use Rattle.kmipa_segments.specs.Chains.{ChecksNext, TellsChecked}
 use Rattle.kmipa_segments.proofs.ChainLemmas.{goes_on_by, leaves_declared}
 use Rattle.kmipa_segments.proofs.chain.Chain.check_next.Goals as goal
 
@@ -15,12 +18,15 @@ take_checked-requires-clause-leaves g c =
 pub returns-in-Ok-clause-prints : goal.returns-in-Ok-clause-prints
 returns-in-Ok-clause-prints g c =
     let ft = is_failed c.check_next_inputs.new.transcript in
-    let fw = is_failed c.check_next_inputs.new.witness in (
+    let fw = is_failed c.check_next_inputs.new.witness in
+    let said = c.take_checked.result in
+    let lines = appended_bytes c.args.out.now.items c.take_checked.new.out.items in
+    let H : Left → Type 0 = λ h. TellsChecked h c.in-Ok.segment said lines ⊎ IsSilent said lines in (
       Ok c.in-Ok.segment,
       λ t w it iw.
           let L : Links → Type 0 = λ l. ChecksNext c.args.self.now l c.args.name.now t w ft fw (Ok c.in-Ok.segment) in
           subst L (sym c.take_checked.ensures.links) (c.in-Ok.ensures.checks t w it iw),
-      c.take_checked.ensures.prints,
+      subst H c.in-Ok.ensures.held c.take_checked.ensures.prints,
     )
 
 pub returns-in-Err-clause-prints : goal.returns-in-Err-clause-prints

@@ -9,14 +9,14 @@ use Rattle.kmipa_segments.proofs.chain.Chain.search_next.Goals as goal
 pub take_found-requires-clause-leaves : goal.take_found-requires-clause-leaves
 take_found-requires-clause-leaves g c =
     let t = c.search_next_input.new.transcript in
-    leaves_where_found c.args.self.now c.search_next_input.new.chain.links c.args.name.now c.in-Ok.segment (came_of t) (g.W.Watch.seconds c.args.watch.now) c.args.budget (c.in-Ok.ensures.searches (came_of t) (itself t))
+    leaves_where_found c.args.self.now c.search_next_input.new.chain.links c.args.next.name.now c.in-Ok.segment (came_of t) (g.W.Watch.seconds c.args.watch.now) c.args.next.budget (c.in-Ok.ensures.searches (came_of t) (itself t))
 
 pub returns-in-Ok-clause-prints : goal.returns-in-Ok-clause-prints
 returns-in-Ok-clause-prints g c =
     let ft = is_failed c.search_next_input.new.transcript in (
       Ok c.in-Ok.segment,
       λ t it.
-          let L : Links → Type 0 = λ l. SearchesNext c.args.self.now l c.args.name.now t ft (g.W.Watch.seconds c.args.watch.now) c.args.budget (Ok c.in-Ok.segment) in
+          let L : Links → Type 0 = λ l. SearchesNext c.args.self.now l c.args.next.name.now t ft (g.W.Watch.seconds c.args.watch.now) c.args.next.budget (Ok c.in-Ok.segment) in
           subst L (sym c.take_found.ensures.links) (c.in-Ok.ensures.searches t it),
       c.take_found.ensures.prints,
     )
@@ -28,7 +28,7 @@ pub returns-in-Ok-clause-goes_on : goal.returns-in-Ok-clause-goes_on
 returns-in-Ok-clause-goes_on g c = λ done.
     let t = c.search_next_input.new.transcript in
     let searched = c.in-Ok.ensures.searches (came_of t) (itself t) in (
-      goes_on_somehow c.args.self.now c.search_next_input.new.chain.links c.args.name.now c.in-Ok.segment (came_of t) (g.W.Watch.seconds c.args.watch.now) c.args.budget searched c.take_found.new.self (c.take_found.ensures.taken cc).0
+      goes_on_somehow c.args.self.now c.search_next_input.new.chain.links c.args.next.name.now c.in-Ok.segment (came_of t) (g.W.Watch.seconds c.args.watch.now) c.args.next.budget searched c.take_found.new.self (c.take_found.ensures.taken cc).0
           (c.take_found.ensures.taken cc).1
           c.take_found.ensures.links,
       c.in-Ok.ensures.ended,
