@@ -28,6 +28,11 @@ pub of_any : {T E : Type 0} (r : Result T E) (P : T → Type 0) → ((x : T) →
 of_any (Ok x) P all = all x
 of_any (Err e) P all = tt
 
+-- as many go on, however they are counted
+pub as_counted : {E : Type 0} (r : Result Status E) (chain next : Chain) (count all : ℕ) → count ≡ all → AreNextOf chain next count → IfOk r (λ status. status ≡ Done → AreNextOf chain next all)
+as_counted (Ok status) chain next count all same on = let P : ℕ → Type 0 = λ n. AreNextOf chain next n in λ done. subst P same on
+as_counted (Err refusal) chain next count all same on = tt
+
 -- ---- the witnesses that were made
 
 module _ {M : Type 0} (made : M → List ℕ × List ℕ) where

@@ -6,7 +6,7 @@ use Rattle.kmipa_check.specs.Audits.{AreAccepted, AuditsAs}
 use Rattle.kmipa_check.specs.declared.auditing.Audited.{Audited}
 use Rattle.kmipa_check.specs.declared.auditing.AuditFault.{AuditFault}
 use Rattle.kmipa_check.specs.declared.verdict.Verdict.{Verdict}
-use Rattle.kmipa_runs.specs.Lines.{FitsStatus, IsDated, PrintsOutcome, SaysYes, yes_line}
+use Rattle.kmipa_runs.specs.Lines.{AreYesLines, FitsStatus, IsDated, PrintsOutcome, SaysYes}
 use Rattle.kmipa_runs.specs.Statuses.{IsSilent}
 use Rattle.kmipa_runs.specs.declared.status.Status.{Status}
 use Rattle.kmipa_runs.specs.declared.status.Status.TheVariants as status
@@ -30,10 +30,10 @@ pub record ChecksInLines {R : Type 0} (t d w : Input R) (said : Status) (lines :
   -- they tell what an audit answers of whatever the files may be, or memory ran out
   pub prints : (outcome : Result Verdict AuditFault)
       × ((a b c : List ℕ) → IsFileOf a t → IsFileOf b d → IsFileOf c w → AuditsAs a b c (is_failed t) (is_failed d) (is_failed w) outcome)
-      × (PrintsOutcome (came_of t) (came_of w) outcome said lines ⊎ IsSilent said lines)
+      × (PrintsOutcome (came_of t) (came_of d) (came_of w) outcome said lines ⊎ IsSilent said lines)
   -- `yes` is printed with status 0, and there alone
   pub fits : FitsStatus said lines
-  pub yes : (said ≡ status.Done) ↔ (lines ≡ yes_line)
+  pub yes : (said ≡ status.Done) ↔ AreYesLines lines
   pub accepts : AcceptsWhenDone t d w said
   -- and where the files may be accepted, unless one fails or memory runs out
   pub accepted : (a b c : List ℕ) → IsFileOf a t → IsFileOf b d → IsFileOf c w → SaysYes (is_failed t) (is_failed d) (is_failed w) said lines a b c
@@ -46,7 +46,7 @@ pub record ChecksExplained {R : Type 0} (t d w : Input R) (said : Status) (lines
       × ((a b c : List ℕ) → IsFileOf a t → IsFileOf b d → IsFileOf c w → AuditsExplained a b c (is_failed t) (is_failed d) (is_failed w) outcome)
       × (PrintsExplained outcome said lines ⊎ IsSilent said lines)
   pub fits : FitsStatus said lines
-  pub yes : (said ≡ status.Done) ↔ (lines ≡ yes_line)
+  pub yes : (said ≡ status.Done) ↔ AreYesLines lines
   pub accepts : AcceptsWhenDone t d w said
 
 -- One object in place of the lines; of a torn transcript so many bytes are its own.

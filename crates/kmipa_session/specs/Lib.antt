@@ -5,4 +5,5 @@ pub mod Printing
 pub mod Sealing
 pub mod Searches
 pub mod Sessions
+pub mod Timing
 pub mod Worlds

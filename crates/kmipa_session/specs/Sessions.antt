@@ -11,6 +11,7 @@ use Rattle.kmipa_session.specs.Jobs.{asked_of, IsNoMoment, IsSince}
 use Rattle.kmipa_session.specs.Printing.{trouble_text, TellsLines, TellsRest, TellsTrouble, voice_of}
 use Rattle.kmipa_session.specs.Sealing.{IsExpected, IsNoSeal, IsOpenedAs, SaysOf, own_length}
 use Rattle.kmipa_session.specs.Searches.{Searches, SearchesInSegment, Shows}
+use Rattle.kmipa_session.specs.Timing.{SaysInTime}
 use Rattle.kmipa_session.specs.Worlds.{input_of, name_of, torn_of}
 use Rattle.kmipa_session.specs.declared.did.Did.{Did}
 use Rattle.kmipa_session.specs.declared.did.Did.TheVariants as did
@@ -68,22 +69,22 @@ module _ {F M E : Type 0} (made : M → List ℕ × List ℕ) (lacked : E → Bo
   -- ---- what was done, with this status and these lines
 
   -- Files with these names were read for a check, the transcript with a close behind it where it was torn and might be, and this is what it says of them, and of the transcript's seals, where this head is
-  -- expected, if one is.
-  abbrev pub HasChecked : CheckFiles → Bool → Form → Option (List ℕ) → Did F M E → Status → List ℕ → Type 0
-  HasChecked files torn form expected (did.Checked ft fd fw) said lines = (name_of ft ≡ files.transcript.now) × IsOpenedAs torn ft × (name_of fd ≡ files.declaration.now)
+  -- expected, if one is; or that the seconds that it was given are over.
+  abbrev pub HasChecked : CheckFiles → Bool → ℕ → Form → Option (List ℕ) → Did F M E → Status → List ℕ → Type 0
+  HasChecked files torn seconds form expected (did.Checked ft fd fw) said lines = (name_of ft ≡ files.transcript.now) × IsOpenedAs torn ft × (name_of fd ≡ files.declaration.now)
       × (name_of fw ≡ files.witness.now)
-      × SaysOf (voice_of form) expected ft (λ ran told. Checks form (own_length (torn_of ft)) (input_of ft) (input_of fd) (input_of fw) ran told) said lines
-  HasChecked files torn form expected other said lines = ⊥
+      × SaysInTime (voice_of form) seconds expected ft fd fw (λ ran told. Checks form (own_length (torn_of ft)) (input_of ft) (input_of fd) (input_of fw) ran told) said lines
+  HasChecked files torn seconds form expected other said lines = ⊥
 
   -- for the check of a segment, and what it leaves was made, where that is asked for
-  abbrev pub HasCheckedSegment : CheckFiles → Bool → SegmentWords → Option (List ℕ) → Did F M E → Status → List ℕ → Type 0
-  HasCheckedSegment files torn segment expected (did.CheckedSegment ft fd fw file) said lines = (name_of ft ≡ files.transcript.now) × IsOpenedAs torn ft
+  abbrev pub HasCheckedSegment : CheckFiles → Bool → ℕ → SegmentWords → Option (List ℕ) → Did F M E → Status → List ℕ → Type 0
+  HasCheckedSegment files torn seconds segment expected (did.CheckedSegment ft fd fw file) said lines = (name_of ft ≡ files.transcript.now) × IsOpenedAs torn ft
       × (name_of fd ≡ files.declaration.now) × (name_of fw ≡ files.witness.now)
       × ((since : Option ℤ) × IsSince segment.not_before since × ((bytes : List ℕ)
-      × SaysOf voice.Lines expected ft
+      × SaysInTime voice.Lines seconds expected ft fd fw
       (λ ran told. ChecksInSegment (is_some segment.leaves) since (input_of ft) (input_of fd) (input_of fw) ran told bytes) said lines
       × IsMadeAsAsked made segment.leaves bytes said file))
-  HasCheckedSegment files torn segment expected other said lines = ⊥
+  HasCheckedSegment files torn seconds segment expected other said lines = ⊥
 
   -- for a search, and the witness that it found was made, if it found one
   abbrev pub HasSearched : SearchFiles → Bool → Form → SearchWords → Option (List ℕ) → Did F M E → Status → List ℕ → Type 0
@@ -122,15 +123,15 @@ module _ {F M E : Type 0} (made : M → List ℕ × List ℕ) (lacked : E → Bo
   TellsDone voice (Err e) done before after failed left = (done ≡ did.Refused e) × TellsTrouble voice (lacked e) before after failed left
 
   -- a check of these files, where this head is expected, if one is
-  abbrev pub RunsAskedCheck : CheckFiles → Bool → SegmentWords → Option (List ℕ) → Asked → Did F M E → List ℕ → List ℕ → Bool → Status → Type 0
-  RunsAskedCheck files torn segment expected (asked.Files form) done before after failed left =
-      TellsWhat (voice_of form) (HasChecked files torn form expected) done before after failed left
-  RunsAskedCheck files torn segment expected asked.Segment done before after failed left =
-      TellsWhat voice.Lines (λ what said lines. HasCheckedSegment files torn segment expected what said lines ⊎ IsUntold segment what said lines) done before after failed left
+  abbrev pub RunsAskedCheck : CheckFiles → Bool → ℕ → SegmentWords → Option (List ℕ) → Asked → Did F M E → List ℕ → List ℕ → Bool → Status → Type 0
+  RunsAskedCheck files torn seconds segment expected (asked.Files form) done before after failed left =
+      TellsWhat (voice_of form) (HasChecked files torn seconds form expected) done before after failed left
+  RunsAskedCheck files torn seconds segment expected asked.Segment done before after failed left =
+      TellsWhat voice.Lines (λ what said lines. HasCheckedSegment files torn seconds segment expected what said lines ⊎ IsUntold segment what said lines) done before after failed left
 
-  abbrev pub RunsCheck : CheckFiles → AnswerWords → Did F M E → List ℕ → List ℕ → Bool → Status → Type 0
-  RunsCheck files words done before after failed left = RunsAsAsked (asked_of words.form words.segment) words.seals.head
-      (λ expected asked. RunsAskedCheck files words.seals.torn words.segment expected asked done before after failed left) (TellsMistake done before after left)
+  abbrev pub RunsCheck : CheckFiles → ℕ → AnswerWords → Did F M E → List ℕ → List ℕ → Bool → Status → Type 0
+  RunsCheck files seconds words done before after failed left = RunsAsAsked (asked_of words.form words.segment) words.seals.head
+      (λ expected asked. RunsAskedCheck files words.seals.torn seconds words.segment expected asked done before after failed left) (TellsMistake done before after left)
 
   abbrev pub RunsAskedSearch : SearchFiles → Bool → SearchWords → SegmentWords → Option (List ℕ) → Asked → Did F M E → List ℕ → List ℕ → Bool → Status → Type 0
   RunsAskedSearch files torn words segment expected (asked.Files form) done before after failed left =
@@ -155,7 +156,7 @@ module _ {F M E : Type 0} (made : M → List ℕ × List ℕ) (lacked : E → Bo
 
   -- A job is done. Of a chain nothing is claimed here.
   abbrev pub RunsJob : Job → Did F M E → List ℕ → List ℕ → Bool → Status → Type 0
-  RunsJob (Check files words) done before after failed left = RunsCheck files words done before after failed left
+  RunsJob (Check files seconds words) done before after failed left = RunsCheck files seconds words done before after failed left
   RunsJob (Search files search words) done before after failed left = RunsSearch files search words done before after failed left
   RunsJob (Chain folder budget seconds quiet leaves witnesses) done before after failed left = Unit {0}
   RunsJob (Show file options) done before after failed left = RunsShow file.now options done before after failed left

@@ -6,16 +6,18 @@ ghost use Rattle.kmipa_runs.specs.declared.status.Status.{Status};
 ghost use Rattle.kmipa_segments.specs.Chaining.{AreNextOf, IsKept};
 ghost use Rattle.kmipa_session.specs.Keeping.{AreNextKept, IsKeptAs, IsNextKept};
 
-use crate::did::{Did, Session};
+use crate::did::{Did, Said, Session};
 use crate::folder::{AskedFor, Folder, FolderSegment};
 use crate::named::Named;
 use crate::printing::tell;
 use crate::telling::refuse;
 use crate::voice::Voice;
-use crate::world::{Content, Out, World};
+use crate::world::{Content, NO_LIMIT, Out, World};
 use kmipa_links::Links;
 use kmipa_runs::Status;
-use kmipa_segments::{Chain, Link, chain_end, chain_out_of_time, chain_witness, sealed_line};
+use kmipa_segments::{
+    Chain, Link, NextSearch, chain_end, chain_out_of_time, chain_witness, sealed_line,
+};
 use std::alloc::{AllocError, Global};
 
 /// What is asked of a chain.
@@ -73,7 +75,7 @@ fn chain_segments<W: World, O: Out>(
     folder: &Folder,
     words: ChainWords<'_>,
 ) -> Result<Status, W::Refusal> {
-    let mut declaration = world.open(folder.declaration.as_str())?;
+    let mut declaration = world.open(folder.declaration.as_str(), NO_LIMIT)?;
     let mut lines = Vec::new(alloc);
     let read = declaration.begin(alloc, &mut lines);
     drop(declaration);
@@ -113,12 +115,11 @@ fn judge_linked<W: World, O: Out>(
 ) -> Result<Status, W::Refusal>
     requires { AreDeclared (declaration_of chain.old.held.declaration) }
 {
-    let segments = &folder.segments;
-    match link_folder(alloc, world, out, segments) {
+    match link_folder(alloc, world, out, &folder.segments) {
         Status::Done => {}
         status => return Ok(status),
     }
-    match judge_all(alloc, world, out, segments, &folder.asked, chain, words)? {
+    match judge_all(alloc, world, out, folder, chain, words)? {
         Status::Done => Ok(tell_seals(alloc, out, chain)),
         status => Ok(status),
     }
@@ -266,27 +267,18 @@ pub fn judge_all<W: World, O: Out>(
     alloc: Global,
     world: &W,
     out: &mut O,
-    segments: &[FolderSegment],
-    asked: &[AskedFor],
+    folder: &Folder,
     chain: &mut Chain,
     words: ChainWords<'_>,
 ) -> Result<Status, W::Refusal>
     requires { AreDeclared (declaration_of chain.old.held.declaration) }
     // Status 0 is answered only where each of the segments goes on from those before it.
     ensures { IfOk result (λ status.
-        status ≡ Status.Done → AreNextOf chain.old chain.new (length segments.now)) }
+        status ≡ Status.Done → AreNextOf chain.old chain.new (length folder.now.segments.items)) }
 {
-    let (status, _) = judge_in_turn(alloc, world, out, segments, chain, words)?;
+    let (status, _) = judge_in_turn(alloc, world, out, &folder.segments, chain, words)?;
     match status {
-        Status::Done => end_all(
-            alloc,
-            world,
-            out,
-            segments.len(),
-            asked,
-            chain,
-            words.leaves,
-        ),
+        Status::Done => end_all(alloc, world, out, folder, chain, words.leaves),
         status => Ok(status),
     }
 }
@@ -295,13 +287,12 @@ fn end_all<W: World, O: Out>(
     alloc: Global,
     world: &W,
     out: &mut O,
-    segments: usize,
-    asked: &[AskedFor],
+    folder: &Folder,
     chain: &Chain,
     leaves: Option<&str>,
 ) -> Result<Status, W::Refusal> {
-    match compare_all(alloc, world, out, asked, chain)? {
-        Status::Done => end(alloc, world, out, segments, chain, leaves),
+    match compare_all(alloc, world, out, &folder.asked, chain)? {
+        Status::Done => end(alloc, world, out, folder.segments.len(), chain, leaves),
         status => Ok(status),
     }
 }
@@ -435,7 +426,7 @@ fn compare<W: World, O: Out>(
     asked: &AskedFor,
     chain: &Chain,
 ) -> Result<Status, W::Refusal> {
-    let mut told = world.open(asked.path.as_str())?;
+    let mut told = world.open(asked.path.as_str(), NO_LIMIT)?;
     let mut lines = Vec::new(alloc);
     let name = asked.name.as_str();
     let status = told.compare(alloc, chain, name, &mut lines);
@@ -456,14 +447,15 @@ fn check<W: World, O: Out>(
         → IsNextKept W.made chain.old chain.new segment.now.kept done.1) }
     ensures declared { AreDeclared (declaration_of chain.new.held.declaration) }
 {
-    let mut transcript = world.open(segment.transcript.as_str())?;
-    let mut order = world.open(witness)?;
+    let mut transcript = world.open(segment.transcript.as_str(), NO_LIMIT)?;
+    let mut order = world.open(witness, NO_LIMIT)?;
     let mut lines = Vec::new(alloc);
     let name = segment.name.as_str();
     let status = Named::check_next(alloc, chain, name, &mut transcript, &mut order, &mut lines);
     let paths = [segment.transcript.as_str(), "", witness];
     hint(world, name, &paths, &lines, status);
-    keep_and_tell(alloc, world, out, &segment.kept, chain, &lines, status)
+    let said = Said { status, lines };
+    keep_and_tell(alloc, world, out, &segment.kept, chain, &said)
 }
 
 fn search<W: World, O: Out>(
@@ -479,14 +471,19 @@ fn search<W: World, O: Out>(
         → IsNextKept W.made chain.old chain.new segment.now.kept done.1) }
     ensures declared { AreDeclared (declaration_of chain.new.held.declaration) }
 {
-    let mut transcript = world.open(segment.transcript.as_str())?;
+    let mut transcript = world.open(segment.transcript.as_str(), NO_LIMIT)?;
     let mut lines = Vec::new(alloc);
     let name = segment.name.as_str();
     let mut watch = world.watch(words.budget, words.seconds, words.watched);
-    let status = transcript.search_next(alloc, chain, name, words.budget, &mut watch, &mut lines);
+    let next = NextSearch {
+        name,
+        budget: words.budget,
+    };
+    let status = transcript.search_next(alloc, chain, next, &mut watch, &mut lines);
     let paths = [segment.transcript.as_str()];
     hint(world, name, &paths, &lines, status);
-    keep_and_tell(alloc, world, out, &segment.kept, chain, &lines, status)
+    let said = Said { status, lines };
+    keep_and_tell(alloc, world, out, &segment.kept, chain, &said)
 }
 
 /// Makes the witness of the segment that was judged, where that is asked for and it was a yes, and prints the lines behind that.
@@ -496,21 +493,21 @@ fn keep_and_tell<W: World, O: Out>(
     out: &mut O,
     kept: &Option<String>,
     chain: &Chain,
-    lines: &[u8],
-    status: Status,
+    said: &Said,
 ) -> Result<(Status, Option<W::Made>), W::Refusal>
     ensures kept { IfOk result (λ done. done.0 ≡ Status.Done
-        → (status ≡ Status.Done) × IsKeptAs W.made (IsKept chain.now) kept.now done.1) }
-    ensures none { status ≢ Status.Done → IfOk result (λ done. done.1 ≡ None) }
+        → (said.now.status ≡ Status.Done) × IsKeptAs W.made (IsKept chain.now) kept.now done.1) }
+    ensures none { said.now.status ≢ Status.Done → IfOk result (λ done. done.1 ≡ None) }
 {
-    let Status::Done = status else {
-        return Ok((tell(out, Voice::Lines, lines, status), None));
+    let lines = said.lines.as_slice();
+    let Status::Done = said.status else {
+        return Ok((tell(out, Voice::Lines, lines, said.status), None));
     };
     let Some(path) = kept else {
-        return Ok((tell(out, Voice::Lines, lines, status), None));
+        return Ok((tell(out, Voice::Lines, lines, said.status), None));
     };
     match keep(alloc, world, chain, path.as_str())? {
-        Some(file) => Ok((tell(out, Voice::Lines, lines, status), Some(file))),
+        Some(file) => Ok((tell(out, Voice::Lines, lines, said.status), Some(file))),
         None => Ok((tell_memory(out), None)),
     }
 }

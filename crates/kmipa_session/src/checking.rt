@@ -4,6 +4,7 @@ ghost use Rattle.std.specs.Prelude.{◌≡◌, ◌⊎◌, [], IfOk, MatchResult}
 ghost use Rattle.kmipa_runs.specs.declared.status.Status.{Status};
 ghost use Rattle.kmipa_session.specs.Jobs.{IsNoMoment, IsSince};
 ghost use Rattle.kmipa_session.specs.Sealing.{IsOpenedAs};
+ghost use Rattle.kmipa_session.specs.Timing.{have_failed};
 ghost use Rattle.kmipa_session.specs.Worlds.{input_of, name_of};
 ghost use Rattle.kmipa_ttlv.specs.Input.{came_of};
 ghost use Rattle.kmipa_session.specs.Sessions.{HasChecked, HasCheckedSegment, IsMadeAsAsked, IsRefused, IsUntold, RunsAskedCheck, RunsCheck, TellsWhat};
@@ -16,11 +17,13 @@ use crate::job::{AnswerWords, Asked, CheckFiles, Form, SegmentWords, asked_of};
 use crate::named::Named;
 use crate::sealing::{NoSeal, expected_of, say_seals};
 use crate::telling::{tell_done, tell_mixed, tell_no_seal};
+use crate::timing::say_in_time;
 use crate::voice::{Voice, voice_of};
 use crate::world::{Content, Out, World};
 use kmipa_runs::Status;
-use kmipa_segments::read_moment;
+use kmipa_segments::{SegmentAsked, read_moment};
 use std::alloc::Global;
+use std::io::Read;
 
 /// What a check is asked for, the head that it has to have, if one is expected, and whether the transcript may be torn.
 #[derive(Clone, Copy, PartialEq, Eq)]
@@ -29,6 +32,8 @@ struct CheckWords<'a> {
     segment: SegmentWords<'a>,
     expected: Option<[u8; 32]>,
     torn: bool,
+    /// The seconds after which it ends; 0 where it has all the time that it takes.
+    seconds: u64,
 }
 
 /// Checks three files as the options ask for it, and prints what is said of them.
@@ -37,9 +42,10 @@ pub fn run_check<'n, W: World, O: Out>(
     world: &W,
     out: O,
     files: CheckFiles<'n>,
+    seconds: u64,
     words: AnswerWords<'n>,
 ) -> Session<'n, O, W::File, W::Made, W::Refusal>
-    ensures { RunsCheck W.made W.lacked files.entry words.entry result.did (O.printed out) (O.printed result.out)
+    ensures { RunsCheck W.made W.lacked files.entry seconds words.entry result.did (O.printed out) (O.printed result.out)
         (O.has_failed result.out) result.status }
 {
     let Some(asked) = asked_of(words.form, words.segment) else {
@@ -52,6 +58,7 @@ pub fn run_check<'n, W: World, O: Out>(
                 segment: words.segment,
                 expected,
                 torn: words.seals.torn,
+                seconds,
             };
             run_asked_check(alloc, world, out, asked, words)
         }
@@ -66,7 +73,7 @@ fn run_asked_check<'n, W: World, O: Out>(
     asked: Asked,
     words: CheckWords<'n>,
 ) -> Session<'n, O, W::File, W::Made, W::Refusal>
-    ensures { RunsAskedCheck W.made W.lacked words.entry.files words.entry.torn words.entry.segment
+    ensures { RunsAskedCheck W.made W.lacked words.entry.files words.entry.torn words.entry.seconds words.entry.segment
         words.entry.expected asked
         result.did (O.printed out) (O.printed result.out) (O.has_failed result.out) result.status }
 {
@@ -85,7 +92,7 @@ fn run_whole_check<'n, W: World, O: Out>(
     words: CheckWords<'n>,
 ) -> Session<'n, O, W::File, W::Made, W::Refusal>
     ensures { TellsWhat W.made W.lacked (voice_of form) (HasChecked W.made W.lacked words.entry.files
-        words.entry.torn form words.entry.expected)
+        words.entry.torn words.entry.seconds form words.entry.expected)
         result.did (O.printed out) (O.printed result.out) (O.has_failed result.out) result.status }
 {
     let done = check_files(alloc, world, form, words);
@@ -99,7 +106,7 @@ fn run_segment_check<'n, W: World, O: Out>(
     out: O,
     words: CheckWords<'n>,
 ) -> Session<'n, O, W::File, W::Made, W::Refusal>
-    ensures { RunsAskedCheck W.made W.lacked words.entry.files words.entry.torn words.entry.segment
+    ensures { RunsAskedCheck W.made W.lacked words.entry.files words.entry.torn words.entry.seconds words.entry.segment
         words.entry.expected Segment
         result.did (O.printed out) (O.printed result.out) (O.has_failed result.out) result.status }
 {
@@ -114,25 +121,22 @@ fn check_files<'n, W: World>(
     form: Form,
     words: CheckWords<'n>,
 ) -> Result<(Said, Did<'n, W::File, W::Made, W::Refusal>), W::Refusal>
-    ensures { IfOk result (λ done. HasChecked W.made W.lacked words.entry.files words.entry.torn form
-        words.entry.expected done.1 done.0.status done.0.lines.items) }
+    ensures { IfOk result (λ done. HasChecked W.made W.lacked words.entry.files words.entry.torn words.entry.seconds
+        form words.entry.expected done.1 done.0.status done.0.lines.items) }
 {
     let files = words.files;
     let names = [files.transcript, files.declaration, files.witness];
-    let mut transcript = open_transcript(world, files.transcript, words.torn)?;
-    let mut declaration = world.open(files.declaration)?;
-    let mut witness = world.open(files.witness)?;
+    let mut transcript = open_transcript(world, files.transcript, words.torn, words.seconds)?;
+    let mut declaration = world.open(files.declaration, words.seconds)?;
+    let mut witness = world.open(files.witness, words.seconds)?;
     let ran = Named::check(alloc, form, &mut transcript, &mut declaration, &mut witness);
     if ran.status == Status::Refused {
         world.hint_kind(&names, &ran.lines);
     }
-    let said = say_seals(
-        alloc,
-        voice_of(form),
-        words.expected,
-        transcript.torn(),
-        ran,
-    );
+    let voice = voice_of(form);
+    let sealed = say_seals(alloc, voice, words.expected, transcript.torn(), ran);
+    let failed = have_failed(&transcript, &declaration, &witness);
+    let said = say_in_time(alloc, world, voice, words.seconds, failed, sealed);
     Ok((said, Did::Checked(transcript, declaration, witness)))
 }
 
@@ -144,8 +148,8 @@ fn check_segment<'n, W: World>(
     words: CheckWords<'n>,
 ) -> Result<(Said, Did<'n, W::File, W::Made, W::Refusal>), W::Refusal>
     ensures { IfOk result (λ done.
-        (HasCheckedSegment W.made W.lacked words.entry.files words.entry.torn words.entry.segment
-        words.entry.expected
+        (HasCheckedSegment W.made W.lacked words.entry.files words.entry.torn words.entry.seconds
+        words.entry.segment words.entry.expected
         done.1 done.0.status done.0.lines.items
         ⊎ IsUntold words.entry.segment done.1 done.0.status done.0.lines.items)
         ⊎ IsRefused W.made W.lacked Lines done.1 done.0.status done.0.lines.items) }
@@ -160,22 +164,26 @@ fn check_segment<'n, W: World>(
     if let Err(refusal) = test_left(world, leaves, &inputs) {
         return Ok((mistaken(alloc), Did::Refused(refusal)));
     }
-    let mut transcript = open_transcript(world, files.transcript, words.torn)?;
-    let mut declaration = world.open(files.declaration)?;
-    let mut order = world.open(files.witness)?;
+    let mut transcript = open_transcript(world, files.transcript, words.torn, words.seconds)?;
+    let mut declaration = world.open(files.declaration, words.seconds)?;
+    let mut order = world.open(files.witness, words.seconds)?;
     test_leaves(world, leaves)?;
     let (ran, left) = Named::check_segment(
         alloc,
         &mut transcript,
         &mut declaration,
         &mut order,
-        since,
-        leaves.is_some(),
+        SegmentAsked {
+            since,
+            leaves: leaves.is_some(),
+        },
     );
     if ran.status == Status::Refused {
         world.hint_kind(&inputs, &ran.lines);
     }
-    let said = say_seals(alloc, Voice::Lines, words.expected, transcript.torn(), ran);
+    let sealed = say_seals(alloc, Voice::Lines, words.expected, transcript.torn(), ran);
+    let failed = have_failed(&transcript, &declaration, &order);
+    let said = say_in_time(alloc, world, Voice::Lines, words.seconds, failed, sealed);
     let file = make_left(world, leaves, &left, said.status)?;
     Ok((
         said,
@@ -183,21 +191,33 @@ fn check_segment<'n, W: World>(
     ))
 }
 
-/// Opens a transcript, which may be torn where that is asked for.
+/// Opens a transcript, which may be torn where that is asked for, and whose reads fail once so many seconds are over.
 pub fn open_transcript<'n, W: World>(
     world: &W,
     name: &'n str,
     torn: bool,
+    seconds: u64,
 ) -> Result<Named<'n, W::File>, W::Refusal>
     ensures name { IfOk result (λ file. name_of file ≡ name.now) }
     ensures fresh { IfOk result (λ file. came_of (input_of file) ≡ []) }
     ensures opened { IfOk result (IsOpenedAs torn) }
 {
     if torn {
-        world.open_torn(name)
+        world.open_torn(name, seconds)
     } else {
-        world.open(name)
+        world.open(name, seconds)
     }
+}
+
+/// Whether a read of one of three files failed.
+fn have_failed<R: Read>(
+    transcript: &Named<'_, R>,
+    declaration: &Named<'_, R>,
+    witness: &Named<'_, R>,
+) -> bool
+    ensures { result ≡ have_failed transcript.now declaration.now witness.now }
+{
+    transcript.has_failed() || declaration.has_failed() || witness.has_failed()
 }
 
 /// Tests that what is left is made of none of the files that are read, where it is asked for.

@@ -87,6 +87,8 @@ pub enum Job<'a> {
     /// Whether the calls of a transcript are possible in the order of a witness.
     Check {
         files: CheckFiles<'a>,
+        /// The seconds after which it ends; 0 where it has all the time that it takes.
+        seconds: u64,
         words: AnswerWords<'a>,
     },
     /// An order in which the calls of a transcript are possible.

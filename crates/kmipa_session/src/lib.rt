@@ -16,6 +16,7 @@ mod searching;
 mod session;
 mod showing;
 mod telling;
+mod timing;
 mod voice;
 mod world;
 
@@ -31,4 +32,4 @@ pub use printing::{tell, tell_refusal};
 pub use ran::Ran;
 pub use session::run_job;
 pub use voice::Voice;
-pub use world::{Content, Out, World};
+pub use world::{Content, NO_LIMIT, Out, World};

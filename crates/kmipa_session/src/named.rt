@@ -13,7 +13,8 @@ use kmipa_record::Torn;
 use kmipa_runs::{Printer, ShowOptions, Status, Unprinted, show_run};
 use kmipa_search::Watch;
 use kmipa_segments::{
-    Chain, Link, chain_begin, chain_check, chain_compare, chain_link, chain_search,
+    Chain, Link, NextSearch, SegmentAsked, chain_begin, chain_check, chain_compare, chain_link,
+    chain_search,
 };
 use kmipa_ttlv::Input;
 use std::alloc::Global;
@@ -76,6 +77,13 @@ impl<'n, R: Read> Named<'n, R> {
         }
     }
 
+    /// Whether a read of it failed.
+    pub fn has_failed(&self) -> bool
+        ensures { result ≡ is_failed (input_of self.now) }
+    {
+        self.input.failed()
+    }
+
     /// Where it is torn, if a close is given behind what it has.
     pub fn torn(&self) -> Option<Torn>
         ensures { result ≡ torn_of self.now }
@@ -124,13 +132,12 @@ impl<'n, R: Read> Named<'n, R> {
         transcript: &mut Named<'_, R>,
         declaration: &mut Named<'_, R>,
         witness: &mut Named<'_, R>,
-        since: Option<i64>,
-        leaves: bool,
+        asked: SegmentAsked,
     ) -> (Ran, Vec<u8>)
         requires transcript { came_of (input_of transcript.old) ≡ [] }
         requires declaration { came_of (input_of declaration.old) ≡ [] }
         requires witness { came_of (input_of witness.old) ≡ [] }
-        ensures checks { ChecksInSegment leaves since (input_of transcript.new) (input_of declaration.new) (input_of
+        ensures checks { ChecksInSegment asked.leaves asked.since (input_of transcript.new) (input_of declaration.new) (input_of
             witness.new)
             result.0.status result.0.lines.items result.1.items }
         ensures known { KnowsTold (torn_of transcript.new) (came_of (input_of transcript.new)) result.0.status
@@ -146,8 +153,7 @@ impl<'n, R: Read> Named<'n, R> {
             &mut transcript.input,
             &mut declaration.input,
             &mut witness.input,
-            since,
-            leaves,
+            asked,
         );
         (told_of(torn, ran), left)
     }
@@ -190,13 +196,12 @@ impl<'n, R: Read> Named<'n, R> {
         words: SearchWords,
         transcript: &mut Named<'_, R>,
         declaration: &mut Named<'_, R>,
-        since: Option<i64>,
-        leaves: bool,
+        asked: SegmentAsked,
         watch: &mut W,
     ) -> (Ran, Vec<u8>, Vec<u8>)
         requires transcript { came_of (input_of transcript.old) ≡ [] }
         requires declaration { came_of (input_of declaration.old) ≡ [] }
-        ensures searches { SearchesInSegment (W.seconds watch.old) words leaves since (input_of transcript.new) (input_of declaration.new)
+        ensures searches { SearchesInSegment (W.seconds watch.old) words asked.leaves asked.since (input_of transcript.new) (input_of declaration.new)
             result.0.status result.0.lines.items result.1.items result.2.items }
         ensures known { KnowsTold (torn_of transcript.new) (came_of (input_of transcript.new)) result.0.status
             result.0.head }
@@ -210,8 +215,7 @@ impl<'n, R: Read> Named<'n, R> {
             words,
             &mut transcript.input,
             &mut declaration.input,
-            since,
-            leaves,
+            asked,
             watch,
         );
         (told_of(torn, ran), made, left)
@@ -295,7 +299,7 @@ impl<'n, R: Read> Named<'n, R> {
             × ((t w : List ℕ) → IsFileOf t (input_of transcript.new) → IsFileOf w (input_of witness.new)
             → ChecksNext chain.old chain.new.links name.now t w (is_failed (input_of transcript.new))
             (is_failed (input_of witness.new)) outcome)
-            × (PrintsJudged TellsChecked name.now outcome result (appended_bytes lines.old.items lines.new.items)
+            × (PrintsJudged (TellsChecked chain.old.held) name.now outcome result (appended_bytes lines.old.items lines.new.items)
             ⊎ IsSilent result (appended_bytes lines.old.items lines.new.items)) }
         ensures goes_on { result ≡ Status.Done → IsNextOf chain.old chain.new
             (record {
@@ -325,8 +329,7 @@ impl<'n, R: Read> Named<'n, R> {
         &mut self,
         alloc: Global,
         chain: &mut Chain,
-        name: &str,
-        budget: u64,
+        next: NextSearch<'_>,
         watch: &mut W,
         lines: &mut Vec<u8>,
     ) -> Status
@@ -334,19 +337,19 @@ impl<'n, R: Read> Named<'n, R> {
         requires fresh { came_of (input_of self.old) ≡ [] }
         ensures prints { (outcome : Result FoundSegment Unjudged)
             × ((t : List ℕ) → IsFileOf t (input_of self.new)
-            → SearchesNext chain.old chain.new.links name.now t (is_failed (input_of self.new))
-            (W.seconds watch.old) budget outcome)
-            × (PrintsJudged TellsSearched name.now outcome result (appended_bytes lines.old.items lines.new.items)
+            → SearchesNext chain.old chain.new.links next.entry.name.now t (is_failed (input_of self.new))
+            (W.seconds watch.old) next.entry.budget outcome)
+            × (PrintsJudged TellsSearched next.entry.name.now outcome result (appended_bytes lines.old.items lines.new.items)
             ⊎ IsSilent result (appended_bytes lines.old.items lines.new.items)) }
         ensures goes_on { result ≡ Status.Done → IsNextOf chain.old chain.new
-            (record { name = name.now; transcript = came_of (input_of self.new); witness = None })
+            (record { name = next.entry.name.now; transcript = came_of (input_of self.new); witness = None })
             × IsTrue (is_ended (input_of self.new)) }
-        ensures kept { result ≡ Status.Done → IsKeptNext chain.old chain.new name.now (came_of (input_of self.new)) }
+        ensures kept { result ≡ Status.Done → IsKeptNext chain.old chain.new next.entry.name.now (came_of (input_of self.new)) }
         ensures let_go { result ≢ Status.Done → (result ≡ Status.Failed) ⊎ (chain.new.witness ≡ None) }
         ensures declared { AreDeclared (declaration_of chain.new.held.declaration) }
         ensures appends { StartsWith lines.new.items lines.old.items }
     {
-        chain_search(alloc, chain, name, &mut self.input, budget, watch, lines)
+        chain_search(alloc, chain, next, &mut self.input, watch, lines)
     }
 
     /// Holds the declaration that the file is against what a chain holds, and appends its name and its lines.

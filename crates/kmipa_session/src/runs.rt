@@ -12,7 +12,9 @@ use crate::job::SearchWords;
 use crate::ran::Ran;
 use kmipa_runs::{check_run, search_run, write_run};
 use kmipa_search::Watch;
-use kmipa_segments::{search_segment_run, segment_run};
+use kmipa_segments::{
+    CheckOutput, SearchAsked, SearchOutput, SegmentAsked, search_segment_run, segment_run,
+};
 use kmipa_telling::{check_json, explain_json, explain_run, explain_search_run, search_json};
 use kmipa_ttlv::Input;
 use std::alloc::Global;
@@ -115,28 +117,20 @@ pub fn check_left<R: Read>(
     transcript: &mut Input<R>,
     declaration: &mut Input<R>,
     witness: &mut Input<R>,
-    since: Option<i64>,
-    leaves: bool,
+    asked: SegmentAsked,
 ) -> (Ran, Vec<u8>)
     requires transcript { came_of transcript.old ≡ [] }
     requires declaration { came_of declaration.old ≡ [] }
     requires witness { came_of witness.old ≡ [] }
-    ensures told { ChecksInSegment leaves since transcript.new declaration.new witness.new result.0.status
+    ensures told { ChecksInSegment asked.leaves asked.since transcript.new declaration.new witness.new result.0.status
         result.0.lines.items result.1.items }
     ensures known { KnowsSeals (came_of transcript.new) result.0.status result.0.head }
 {
-    let mut lines = Vec::new(alloc);
-    let mut left = Vec::new(alloc);
-    let answered = segment_run(
-        alloc,
-        transcript,
-        declaration,
-        witness,
-        since,
-        leaves,
-        &mut lines,
-        &mut left,
-    );
+    let lines = Vec::new(alloc);
+    let left = Vec::new(alloc);
+    let mut out = CheckOutput { lines, left };
+    let answered = segment_run(alloc, transcript, declaration, witness, asked, &mut out);
+    let CheckOutput { lines, left } = out;
     let ran = Ran {
         status: answered.status,
         lines,
@@ -258,33 +252,27 @@ pub fn search_left<R: Read, W: Watch>(
     words: SearchWords,
     transcript: &mut Input<R>,
     declaration: &mut Input<R>,
-    since: Option<i64>,
-    leaves: bool,
+    asked: SegmentAsked,
     watch: &mut W,
 ) -> (Ran, Vec<u8>, Vec<u8>)
     requires transcript { came_of transcript.old ≡ [] }
     requires declaration { came_of declaration.old ≡ [] }
-    ensures told { SearchesInSegment (W.seconds watch.old) words leaves since transcript.new declaration.new
+    ensures told { SearchesInSegment (W.seconds watch.old) words asked.leaves asked.since transcript.new declaration.new
         result.0.status result.0.lines.items result.1.items result.2.items }
     ensures known { KnowsSeals (came_of transcript.new) result.0.status result.0.head }
 {
-    let mut lines = Vec::new(alloc);
-    let mut made = Vec::new(alloc);
-    let mut left = Vec::new(alloc);
-    let answered = search_segment_run(
-        alloc,
-        transcript,
-        declaration,
-        since,
-        words.budget,
-        words.forced,
-        words.open,
-        leaves,
-        watch,
-        &mut lines,
-        &mut made,
-        &mut left,
-    );
+    let asked = SearchAsked {
+        budget: words.budget,
+        forced: words.forced,
+        open: words.open,
+        segment: asked,
+    };
+    let lines = Vec::new(alloc);
+    let made = Vec::new(alloc);
+    let left = Vec::new(alloc);
+    let mut out = SearchOutput { lines, made, left };
+    let answered = search_segment_run(alloc, transcript, declaration, asked, watch, &mut out);
+    let SearchOutput { lines, made, left } = out;
     let ran = Ran {
         status: answered.status,
         lines,

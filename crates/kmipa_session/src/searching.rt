@@ -13,9 +13,18 @@ use crate::named::Named;
 use crate::sealing::{NoSeal, expected_of, say_seals};
 use crate::telling::{tell_done, tell_mixed, tell_no_seal};
 use crate::voice::{Voice, voice_of};
-use crate::world::{Content, Out, World};
+use crate::world::{Content, NO_LIMIT, Out, World};
 use kmipa_runs::Status;
+use kmipa_segments::SegmentAsked;
 use std::alloc::Global;
+
+/// What is asked of a search: its files, how it goes, and its answer.
+#[derive(Clone, Copy, PartialEq, Eq)]
+pub struct SearchJob<'a> {
+    pub files: SearchFiles<'a>,
+    pub search: SearchWords,
+    pub words: AnswerWords<'a>,
+}
 
 /// What a search is asked for, the head that the transcript has to have, if one is expected, and whether it may be torn.
 #[derive(Clone, Copy, PartialEq, Eq)]
@@ -34,14 +43,17 @@ pub fn run_search<'n, W: World, O: Out>(
     alloc: Global,
     world: &W,
     out: O,
-    files: SearchFiles<'n>,
-    search: SearchWords,
-    words: AnswerWords<'n>,
+    job: SearchJob<'n>,
     watched: bool,
 ) -> Session<'n, O, W::File, W::Made, W::Refusal>
-    ensures { RunsSearch W.made W.lacked files.entry search words.entry
+    ensures { RunsSearch W.made W.lacked job.entry.files job.entry.search job.entry.words
         result.did (O.printed out) (O.printed result.out) (O.has_failed result.out) result.status }
 {
+    let SearchJob {
+        files,
+        search,
+        words,
+    } = job;
     let Some(asked) = asked_of(words.form, words.segment) else {
         return tell_mixed(world, out);
     };
@@ -130,8 +142,8 @@ fn search_files<'n, W: World>(
     if let Err(refusal) = world.test_distinct(witness, &names) {
         return Ok((mistaken(alloc), Did::Refused(refusal)));
     }
-    let mut transcript = open_transcript(world, files.transcript, words.torn)?;
-    let mut declaration = world.open(files.declaration)?;
+    let mut transcript = open_transcript(world, files.transcript, words.torn, NO_LIMIT)?;
+    let mut declaration = world.open(files.declaration, NO_LIMIT)?;
     world.test_output(witness)?;
     let mut watch = watch_of(world, words);
     let (ran, made) = Named::search(
@@ -203,8 +215,8 @@ fn search_segment<'n, W: World>(
     if let Err(refusal) = test_outputs(world, witness, leaves, &names) {
         return Ok((mistaken(alloc), Did::Refused(refusal)));
     }
-    let mut transcript = open_transcript(world, files.transcript, words.torn)?;
-    let mut declaration = world.open(files.declaration)?;
+    let mut transcript = open_transcript(world, files.transcript, words.torn, NO_LIMIT)?;
+    let mut declaration = world.open(files.declaration, NO_LIMIT)?;
     world.test_output(witness)?;
     test_leaves(world, leaves)?;
     let mut watch = watch_of(world, words);
@@ -213,8 +225,10 @@ fn search_segment<'n, W: World>(
         words.search,
         &mut transcript,
         &mut declaration,
-        since,
-        leaves.is_some(),
+        SegmentAsked {
+            since,
+            leaves: leaves.is_some(),
+        },
         &mut watch,
     );
     if ran.status == Status::Refused {

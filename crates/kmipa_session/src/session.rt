@@ -7,7 +7,7 @@ use crate::chaining::{ChainWords, run_chain};
 use crate::checking::run_check;
 use crate::did::Session;
 use crate::job::Job;
-use crate::searching::run_search;
+use crate::searching::{SearchJob, run_search};
 use crate::showing::{run_show, run_write};
 use crate::world::{Out, World};
 use std::alloc::Global;
@@ -25,12 +25,23 @@ pub fn run_job<'n, W: World, O: Out>(
         result.out) result.status }
 {
     match *job {
-        Job::Check { files, words } => run_check(alloc, world, out, files, words),
+        Job::Check {
+            files,
+            seconds,
+            words,
+        } => run_check(alloc, world, out, files, seconds, words),
         Job::Search {
             files,
             search,
             words,
-        } => run_search(alloc, world, out, files, search, words, watched),
+        } => {
+            let asked = SearchJob {
+                files,
+                search,
+                words,
+            };
+            run_search(alloc, world, out, asked, watched)
+        }
         Job::Chain {
             folder,
             budget,

@@ -10,7 +10,7 @@ use crate::printing::tell_rest;
 use crate::searching::make_when_done;
 use crate::telling::{refuse, tell_done};
 use crate::voice::Voice;
-use crate::world::{Out, World};
+use crate::world::{NO_LIMIT, Out, World};
 use kmipa_runs::{ShowOptions, Status};
 use std::alloc::Global;
 
@@ -25,7 +25,7 @@ pub fn run_show<'n, W: World, O: Out>(
     ensures { RunsShow W.made W.lacked name.entry.now options result.did (O.printed out) (O.printed result.out)
         (O.has_failed result.out) result.status }
 {
-    match world.open(name) {
+    match world.open(name, NO_LIMIT) {
         Ok(mut file) => {
             let (mut out, done) = file.show(alloc, options, out);
             let status = tell_rest(&mut out, done);
@@ -68,7 +68,7 @@ fn write_file<'n, W: World>(
     if let Err(refusal) = world.test_distinct(made, &[hex]) {
         return Ok((mistaken(alloc), Did::Refused(refusal)));
     }
-    let mut digits = world.open(hex)?;
+    let mut digits = world.open(hex, NO_LIMIT)?;
     world.test_output(made)?;
     let (said, bytes) = digits.write(alloc);
     if said.status == Status::Refused {

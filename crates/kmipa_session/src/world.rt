@@ -1,6 +1,6 @@
 //! What a session needs of the world.
 
-ghost use Rattle.std.specs.Prelude.{◌≡◌, ◌≤◌, None, [], ℕ, List, Bool, IsTrue, IfOk, IfSome, length};
+ghost use Rattle.std.specs.Prelude.{◌≡◌, ◌≤◌, ◌<◌, None, [], ℕ, List, Bool, IsTrue, IfOk, IfSome, length};
 ghost use Rattle.kmipa_ttlv.specs.Input.{came_of};
 ghost use Rattle.kmipa_session.specs.Worlds.{input_of, name_of, torn_of};
 
@@ -9,6 +9,9 @@ use crate::named::Named;
 use kmipa_runs::Printer;
 use kmipa_search::Watch;
 use std::io::Read;
+
+/// The seconds of a file that may be read at any time.
+pub const NO_LIMIT: u64 = 0;
 
 /// What is to stand in a file.
 #[derive(Clone, Copy)]
@@ -42,15 +45,20 @@ pub trait World {
     /// Whether something was refused for want of memory.
     ghost lacked: { Self.Refusal → Bool };
 
-    /// Opens a file to be read. Why it can't be is told on standard error.
-    fn open<'n>(&self, name: &'n str) -> Result<Named<'n, Self::File>, Self::Refusal>
+    /// Opens a file to be read, whose reads fail once so many seconds went by since the world began. Where these are 0, no read fails for that. Why
+    /// it can't be opened is told on standard error.
+    fn open<'n>(&self, name: &'n str, seconds: u64) -> Result<Named<'n, Self::File>, Self::Refusal>
         ensures name { IfOk result (λ file. name_of file ≡ name.now) }
         ensures fresh { IfOk result (λ file. came_of (input_of file) ≡ []) }
         ensures whole { IfOk result (λ file. torn_of file ≡ None) };
 
-    /// Opens a transcript that may be torn. Where it is sealed and has no close, its reads give its whole records, and then a close of their own in
+    /// Opens so a transcript that may be torn. Where it is sealed and has no close, its reads give its whole records, and then a close of their own in
     /// place of what else it has; the file tells where that is. Why it can't be opened is told on standard error.
-    fn open_torn<'n>(&self, name: &'n str) -> Result<Named<'n, Self::File>, Self::Refusal>
+    fn open_torn<'n>(
+        &self,
+        name: &'n str,
+        seconds: u64,
+    ) -> Result<Named<'n, Self::File>, Self::Refusal>
         ensures name { IfOk result (λ file. name_of file ≡ name.now) }
         ensures fresh { IfOk result (λ file. came_of (input_of file) ≡ []) };
 
@@ -101,7 +109,8 @@ pub trait World {
         ensures { Self.Watcher.seconds result ≡ seconds };
 
     /// Whether so many seconds went by since the world began. Of 0 that is never said.
-    fn is_over(&self, seconds: u64) -> bool;
+    fn is_over(&self, seconds: u64) -> bool
+        ensures { IsTrue result → 0 < seconds };
 
     /// Where the lines say that a file's header is refused, and it is of another kind, tells so on standard error.
     fn hint_kind(&self, names: &[&str], lines: &[u8])
