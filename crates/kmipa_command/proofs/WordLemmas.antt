@@ -45,11 +45,11 @@ text_found f id given e = e ∙ first_value-rows f id
 -- the values that the getters found are those of the subcommand with this name
 pub check_found : (f : Found) (job : Job) (o : Option (Text × List Row))
     → Some (codes "check") ≡ option_map (λ p. p.0) o → Some (rows_of f) ≡ option_map (λ p. p.1) o → IsCheck job (rows_of f) → IsJob job o
-check_found f (Check files words) None n e is = cc
-check_found f (Check files words) (Some found) n e is =
+check_found f (Check files seconds words) None n e is = cc
+check_found f (Check files seconds words) (Some found) n e is =
     let name : codes "check" ≡ found.0 = cc in
     let rows : rows_of f ≡ found.1 = cc in
-    let P : List Row → Type 0 = λ r. IsCheck (Check files words) r in
+    let P : List Row → Type 0 = λ r. IsCheck (Check files seconds words) r in
     (sym name, subst P rows is)
 check_found f (Search files search words) o n e is = absurd is
 check_found f (Chain folder budget seconds quiet leaves witnesses) o n e is = absurd is
@@ -87,7 +87,7 @@ search_found f (Search files search words) (Some found) n e is =
     let rows : rows_of f ≡ found.1 = cc in
     let P : List Row → Type 0 = λ r. IsSearch (Search files search words) r in
     (sym name, subst P rows is)
-search_found f (Check files words) o n e is = absurd is
+search_found f (Check files seconds words) o n e is = absurd is
 search_found f (Chain folder budget seconds quiet leaves witnesses) o n e is = absurd is
 search_found f (Show file options) o n e is = absurd is
 search_found f (Write hex out) o n e is = absurd is
@@ -105,7 +105,7 @@ chain_found f (Chain folder budget seconds quiet leaves witnesses) (Some found) 
     let rows : rows_of f ≡ found.1 = cc in
     let P : List Row → Type 0 = λ r. IsChain (Chain folder budget seconds quiet leaves witnesses) r in
     (sym name, subst P rows is)
-chain_found f (Check files words) o n e is = absurd is
+chain_found f (Check files seconds words) o n e is = absurd is
 chain_found f (Search files search words) o n e is = absurd is
 chain_found f (Show file options) o n e is = absurd is
 chain_found f (Write hex out) o n e is = absurd is

@@ -53,9 +53,13 @@ abbrev pub check_files_app : App
 check_files_app = with_rule (with_rule (with_rule (new_app (codes "check")) (file_rule (codes "TRANSCRIPT")))
     (file_rule (codes "DECLARATION"))) (file_rule (codes "WITNESS"))
 
+-- and after it `[--seconds N]`
+abbrev pub check_limits_app : App
+check_limits_app = with_rule check_files_app seconds_rule
+
 -- and after it `[--explain] [--json]`
 abbrev pub check_texts_app : App
-check_texts_app = with_rule (with_rule check_files_app (flag_rule (codes "explain"))) (flag_rule (codes "json"))
+check_texts_app = with_rule (with_rule check_limits_app (flag_rule (codes "explain"))) (flag_rule (codes "json"))
 
 -- and after that `[--leaves OUT] [--not-before DATE]`
 abbrev pub check_segment_app : App
@@ -153,8 +157,9 @@ IsAnswer words rows = IsForm words.form rows × IsSegment words.segment rows × 
 
 -- these values are of this check
 abbrev pub IsCheck : Job → List Row → Type 0
-IsCheck (Check files words) rows = (first_of (codes "TRANSCRIPT") rows ≡ Some files.transcript.now)
-    × (first_of (codes "DECLARATION") rows ≡ Some files.declaration.now) × (first_of (codes "WITNESS") rows ≡ Some files.witness.now) × IsAnswer words rows
+IsCheck (Check files seconds words) rows = (first_of (codes "TRANSCRIPT") rows ≡ Some files.transcript.now)
+    × (first_of (codes "DECLARATION") rows ≡ Some files.declaration.now) × (first_of (codes "WITNESS") rows ≡ Some files.witness.now)
+    × IsNumber (codes "seconds") rows seconds × IsAnswer words rows
 IsCheck job rows = ⊥
 
 -- these values are of this search
@@ -174,7 +179,7 @@ IsChain job rows = ⊥
 -- the subcommand with this name and these values is this job
 abbrev pub IsJob : Job → Option (Text × List Row) → Type 0
 IsJob job None = ⊥
-IsJob (Check files words) (Some found) = (found.0 ≡ codes "check") × IsCheck (Check files words) found.1
+IsJob (Check files seconds words) (Some found) = (found.0 ≡ codes "check") × IsCheck (Check files seconds words) found.1
 IsJob (Search files search words) (Some found) = (found.0 ≡ codes "search") × IsSearch (Search files search words) found.1
 IsJob (Chain folder budget seconds quiet leaves witnesses) (Some found) = (found.0 ≡ codes "chain") × IsChain (Chain folder budget seconds quiet leaves witnesses) found.1
 IsJob (Show file options) (Some found) = (found.0 ≡ codes "show") × (first_of (codes "FILE") found.1 ≡ Some file.now)

@@ -3,10 +3,11 @@
 ghost use Rattle.std.specs.Prelude.{◌≤◌, length};
 
 use crate::held_file::HeldFile;
+use crate::time_limit::TimeLimit;
 use kmipa_record::{Torn, complete};
 use std::fs::OpenFile;
 use std::io::{BufReader, Read};
-use std::rt::Files;
+use std::rt::{Clock, Files};
 use std::{fs, io};
 
 /// The words for the three files of an audit, in the order of the command line, and what a file of each kind begins with.
@@ -29,29 +30,31 @@ pub fn open_file<R: Files + AllocGlobal + Eprint>(
 
 /// Opens a transcript that may be torn, and holds what it has. Where it is torn, a close stands behind its whole records in place of what else it has.
 /// Why it can't be opened is reported on standard error.
-pub fn open_torn_file<R: Files + AllocGlobal + Eprint>(
+pub fn open_torn_file<'a, R: Files + Clock + AllocGlobal + Eprint>(
     rt: &R,
     name: &str,
-) -> io::Result<(HeldFile<R::File>, Option<Torn>)> {
-    reported(rt, name, opened_torn(rt, name))
+    limit: TimeLimit<'a, R>,
+) -> io::Result<(HeldFile<'a, R, R::File>, Option<Torn>)> {
+    reported(rt, name, opened_torn(rt, name, limit))
 }
 
-fn opened_torn<R: Files + AllocGlobal>(
+fn opened_torn<'a, R: Files + Clock + AllocGlobal>(
     rt: &R,
     name: &str,
-) -> io::Result<(HeldFile<R::File>, Option<Torn>)> {
-    let mut file = opened(rt, name)?;
+    limit: TimeLimit<'a, R>,
+) -> io::Result<(HeldFile<'a, R, R::File>, Option<Torn>)> {
+    let mut file = HeldFile::over(rt.alloc(), limit, opened(rt, name)?);
     let mut held = Vec::new(rt.alloc());
     if let Err(error) = file.read_to_end(&mut held) {
         if error.kind() == io::ErrorKind::OutOfMemory {
             return Err(error);
         }
         // What came is judged, and then that the file can't be read.
-        return Ok((HeldFile::held(held, Some(file)), None));
+        return Ok((file.behind(held), None));
     }
     match complete(rt.alloc(), &mut held)? {
-        Some(torn) => Ok((HeldFile::held(held, None), Some(torn))),
-        None => Ok((HeldFile::held(held, Some(file)), None)),
+        Some(torn) => Ok((file.replaced(held), Some(torn))),
+        None => Ok((file.behind(held), None)),
     }
 }
 

@@ -8,9 +8,10 @@ ghost use Rattle.kmipa_command.specs.Sessions.{is_memory};
 use crate::files::{hint_digits, hint_kind, open_file, open_torn_file, opened};
 use crate::folders::read_folder;
 use crate::held_file::HeldFile;
-use crate::progress::{Progress, are_over};
+use crate::progress::Progress;
 use crate::replacing::{are_one_output, is_input, replace_both, replace_file, test_output};
-use kmipa_session::{Content, Folder, Named, World};
+use crate::time_limit::TimeLimit;
+use kmipa_session::{Content, Folder, NO_LIMIT, Named, World};
 use kmipa_ttlv::History;
 use std::io;
 use std::os::fd::AsFd;
@@ -26,6 +27,13 @@ pub struct Host<'a, R> {
 }
 
 impl<'a, R: Clock> Host<'a, R> {
+    /// So many seconds from when it began.
+    fn limit(&self, seconds: u64) -> TimeLimit<'a, R>
+        ensures { result.seconds ≡ seconds }
+    {
+        TimeLimit::new(self.rt, self.began, seconds)
+    }
+
     /// The world of this runtime, which begins now.
     pub fn new(rt: &'a R) -> Host<'a, R> {
         let began = Instant::now(rt).ok();
@@ -55,7 +63,7 @@ fn made_of(file: Content<'_>) -> MadeFile
 }
 
 impl<'a, R: Files<File: AsFd> + Clock + AllocGlobal + Eprint + Clone + Drop> World for Host<'a, R> {
-    type File = HeldFile<R::File>;
+    type File = HeldFile<'a, R, R::File>;
 
     type Watcher = Progress<'a, R>;
 
@@ -67,19 +75,29 @@ impl<'a, R: Files<File: AsFd> + Clock + AllocGlobal + Eprint + Clone + Drop> Wor
 
     ghost lacked = { λ error. is_memory (error_kind error) };
 
-    fn open<'n>(&self, name: &'n str) -> Result<Named<'n, HeldFile<R::File>>, io::Error> {
+    fn open<'n>(
+        &self,
+        name: &'n str,
+        seconds: u64,
+    ) -> Result<Named<'n, HeldFile<'a, R, R::File>>, io::Error> {
         let file = open_file(self.rt, name)?;
-        Ok(Named::over(name, HeldFile::over(self.rt.alloc(), file)))
+        let limited = HeldFile::over(self.rt.alloc(), self.limit(seconds), file);
+        Ok(Named::over(name, limited))
     }
 
-    fn open_torn<'n>(&self, name: &'n str) -> Result<Named<'n, HeldFile<R::File>>, io::Error> {
-        let (file, torn) = open_torn_file(self.rt, name)?;
+    fn open_torn<'n>(
+        &self,
+        name: &'n str,
+        seconds: u64,
+    ) -> Result<Named<'n, HeldFile<'a, R, R::File>>, io::Error> {
+        let (file, torn) = open_torn_file(self.rt, name, self.limit(seconds))?;
         Ok(Named::over_torn(name, file, torn))
     }
 
-    fn peek<'n>(&self, name: &'n str) -> Option<Named<'n, HeldFile<R::File>>> {
+    fn peek<'n>(&self, name: &'n str) -> Option<Named<'n, HeldFile<'a, R, R::File>>> {
         let file = opened(self.rt, name).ok()?;
-        Some(Named::over(name, HeldFile::over(self.rt.alloc(), file)))
+        let held = HeldFile::over(self.rt.alloc(), self.limit(NO_LIMIT), file);
+        Some(Named::over(name, held))
     }
 
     fn test_distinct(&self, output: &str, inputs: &[&str]) -> Result<(), io::Error> {
@@ -139,10 +157,7 @@ impl<'a, R: Files<File: AsFd> + Clock + AllocGlobal + Eprint + Clone + Drop> Wor
     }
 
     fn is_over(&self, seconds: u64) -> bool {
-        match Instant::now(self.rt) {
-            Ok(now) => are_over(self.began, now, seconds),
-            Err(_) => false,
-        }
+        self.limit(seconds).is_over()
     }
 
     fn hint_kind(&self, names: &[&str], lines: &[u8]) {

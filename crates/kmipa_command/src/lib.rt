@@ -9,9 +9,11 @@ mod output;
 mod progress;
 mod replacing;
 mod session;
+mod time_limit;
 mod words;
 
 pub use held_file::HeldFile;
 pub use host::{Host, MadeFile};
 pub use output::Output;
 pub use session::{run_session, words_of};
+pub use time_limit::TimeLimit;

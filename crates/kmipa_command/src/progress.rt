@@ -2,6 +2,7 @@
 
 ghost use Rattle.std.specs.Prelude.{◌≡◌};
 
+use crate::time_limit::are_over;
 use kmipa_search::Watch;
 use std::rt::Clock;
 use std::time::Instant;
@@ -81,14 +82,6 @@ impl<'a, R: Clock + Eprint> Progress<'a, R> {
                 "kmip_audit: {steps} of {budget} steps, {taken} calls taken, {deepest} at the deepest"
             ))
             .ok();
-    }
-}
-
-/// Whether so many seconds went by from the one moment to the other. Of 0 that is never said, and nothing of no moment.
-pub fn are_over(began: Option<Instant>, now: Instant, seconds: u64) -> bool {
-    match began {
-        Some(began) => seconds > 0 && now.duration_since(began).as_secs() >= seconds,
-        None => false,
     }
 }
 

@@ -4,7 +4,7 @@ ghost use Rattle.std.specs.Prelude.{◌≡◌, ◌≢◌, ◌⊎◌, ◌||◌, i
 ghost use Rattle.clap.specs.Words.{app_of, rule_of, rows_of, found_of, kind_of, subcommand_of, subcommand_rows_of, fault_of};
 ghost use Rattle.clap.specs.declared.builder.command.Command.TheViews.{out-Command};
 ghost use Rattle.kmipa_runs.specs.Statuses.{IsSilent};
-ghost use Rattle.kmipa_command.specs.Words.{program_app, check_app, check_files_app, check_segment_app, check_texts_app, search_app, search_files_app, search_limits_app, search_segment_app, search_steps_app, search_texts_app, show_app, write_app, chain_app, chain_folder_app, chain_steps_app, budget_rule, seconds_rule, file_rule, flag_rule, option_rule, status_of, IsAnswer, IsChain, IsCheck, IsForm, IsJob, IsSealed, IsSearch, IsSegment, IsTold};
+ghost use Rattle.kmipa_command.specs.Words.{program_app, check_app, check_files_app, check_limits_app, check_segment_app, check_texts_app, search_app, search_files_app, search_limits_app, search_segment_app, search_steps_app, search_texts_app, show_app, write_app, chain_app, chain_folder_app, chain_steps_app, budget_rule, seconds_rule, file_rule, flag_rule, option_rule, status_of, IsAnswer, IsChain, IsCheck, IsForm, IsJob, IsSealed, IsSearch, IsSegment, IsTold};
 
 use clap::builder::ValueParser;
 use clap::error::ErrorKind;
@@ -72,7 +72,7 @@ kit logic dac8208d650f15bf";
 /// The most steps that a search may be given.
 const MOST_STEPS: u64 = 1_000_000_000;
 
-/// The most seconds that a search may be given.
+/// The most seconds that a check or a search may be given.
 const MOST_SECONDS: u64 = 1_000_000_000;
 
 /// What stands below the list of words.
@@ -97,6 +97,10 @@ With --explain stands behind the lines of a no what its reason rests on, a line 
 message outside what is judged each field that makes it so. With --json one JSON object stands in place of all lines, and
 with both it has the claims as members. Neither goes together with --leaves or --not-before.
 
+With --seconds it gives up at the next read of a file once N seconds are over since it began, unless N is 0, and prints
+'gave up: 0 steps' and 'not decided: N seconds are over'. Nothing is told by that. A verdict that is printed is what it is
+without.
+
 At a yes, and only then, --leaves writes the declaration with which the audit of the next segment goes on, and prints
 'left: N entries, last stamp DATE'. That DATE is the --not-before of the next segment: a first turn that is earlier is
 a no by reason 2. A date is written as 2023-11-14T22:13:20Z or as a number of seconds since 1970.
@@ -107,7 +111,7 @@ another head, or the transcript bears no seals, 'head: HEX, expected HEX' stands
 A sealed transcript without its close, as a killed recorder leaves it, is refused. With --torn it is judged up to its last
 whole record, and ' torn' stands behind HEX; where part of a record is left out, ' torn after N bytes'.
 
-Status: 0 yes; 1 no; 2 a file is refused; 3 a device failed or memory ran out; 64 wrong words";
+Status: 0 yes; 1 no; 2 a file is refused; 3 a device failed or memory ran out; 4 the seconds are over; 64 wrong words";
 
 const SEARCH_HELP: &str = "\
 Example:
@@ -192,7 +196,7 @@ pub struct Usage {
 
 /// The job that the words of a command line name, the first of which is the program's name.
 ///
-/// - `kmip_audit check TRANSCRIPT DECLARATION WITNESS [--explain] [--json] [--leaves OUT] [--not-before DATE] [--head HEX] [--torn]`
+/// - `kmip_audit check TRANSCRIPT DECLARATION WITNESS [--seconds N] [--explain] [--json] [--leaves OUT] [--not-before DATE] [--head HEX] [--torn]`
 /// - `kmip_audit search TRANSCRIPT DECLARATION OUT [--budget N] [--seconds N] [--forced] [--open] [--quiet] [--explain] [--json] [--leaves LEFT] [--not-before DATE] [--head HEX] [--torn]`, each N from 0 to 1,000,000,000
 /// - `kmip_audit chain DIR [--budget N] [--seconds N] [--quiet] [--leaves OUT] [--witnesses FOLDER]`
 /// - `kmip_audit show FILE [--messages] [--notes]`
@@ -236,7 +240,7 @@ fn check<'a>(alloc: Global) -> Result<Command<'a>, AllocError>
         .arg(torn(alloc))
 }
 
-/// A check with the options of what it prints, and of a segment.
+/// A check with the options of how long it goes on, of what it prints, and of a segment.
 fn check_with_segment<'a>(alloc: Global) -> Result<Command<'a>, AllocError>
     ensures app { IfOk result (λ command. app_of command ≡ check_segment_app) }
     ensures local { IfOk result (λ command. (out-Command command).has_globals ≡ false) }
@@ -246,14 +250,22 @@ fn check_with_segment<'a>(alloc: Global) -> Result<Command<'a>, AllocError>
         .arg(not_before(alloc))
 }
 
-/// A check with the options of what it prints.
+/// A check with the options of how long it goes on, and of what it prints.
 fn check_with_texts<'a>(alloc: Global) -> Result<Command<'a>, AllocError>
     ensures app { IfOk result (λ command. app_of command ≡ check_texts_app) }
     ensures local { IfOk result (λ command. (out-Command command).has_globals ≡ false) }
 {
-    check_of_files(alloc)?
+    check_with_limits(alloc)?
         .arg(flag(alloc, EXPLAIN, "Prints behind a no what it means"))?
         .arg(flag(alloc, JSON, "Prints one JSON object in place of the lines"))
+}
+
+/// A check with the option of how long it goes on.
+fn check_with_limits<'a>(alloc: Global) -> Result<Command<'a>, AllocError>
+    ensures app { IfOk result (λ command. app_of command ≡ check_limits_app) }
+    ensures local { IfOk result (λ command. (out-Command command).has_globals ≡ false) }
+{
+    check_of_files(alloc)?.arg(seconds(alloc))
 }
 
 /// A check without its options.
@@ -438,7 +450,7 @@ fn budget<'a>(alloc: Global) -> Arg<'a>
         .help("The most steps that are made, from 0 to 1000000000")
 }
 
-/// How many seconds go by until a search ends.
+/// How many seconds go by until a check or a search ends.
 fn seconds<'a>(alloc: Global) -> Arg<'a>
     ensures rule { rule_of result ≡ seconds_rule }
     ensures local { result.global ≡ false }
@@ -569,8 +581,10 @@ fn check_of<'a>(words: &ArgMatches<'a>) -> Option<Job<'a>>
         declaration: words.get_str(DECLARATION)?,
         witness: words.get_str(WITNESS)?,
     };
+    let seconds = words.get_one::<u64>(SECONDS)?;
     Some(Job::Check {
         files,
+        seconds,
         words: answer_of(words),
     })
 }
