@@ -2,10 +2,12 @@
 
 ghost use Rattle.std.specs.Prelude.{◌≡◌, true};
 
+mod aside;
 mod attributes;
 mod audits;
 mod calls;
 mod files;
+mod hopeless;
 mod leaving;
 mod ledgers;
 mod lives;
