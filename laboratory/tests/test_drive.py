@@ -274,7 +274,7 @@ class Faults(unittest.TestCase):
         for name, fault in FAULTS.items():
             with self.subTest(fault=name):
                 self.assertTrue(description(fault).endswith((".", "?")))
-                self.assertIn(f"| {name} |", table)
+                self.assertIn(f"\n- {name} · ", table)
                 self.assertIn(fault.mix, NAMED)
 
 

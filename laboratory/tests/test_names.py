@@ -16,7 +16,8 @@ FORMATS = (FOLDER.parent / "docs/FORMATS.md").read_text()
 
 def of_enumeration(name: str) -> str:
     """The numbers of a type, as the document lists them."""
-    return re.search(rf"^\| {name} \| (.*) \|$", FORMATS, re.MULTILINE).group(1)
+    found = re.search(rf"^- {name} · (.*(?:\n  .*)*)$", FORMATS, re.MULTILINE)
+    return " ".join(found.group(1).split())
 
 
 class Names(unittest.TestCase):
