@@ -135,12 +135,22 @@ TRANSCRIPT_HEADER = structure(0x540001, integer(0x540002, 1))
 WITNESS_HEADER = witness_header(1)
 
 
-def declaration_header(unique_names: bool = False, tolerance: int | None = None) -> bytes:
-    """A header of version 1; of version 2, where a tolerance is given."""
-    if tolerance is None:
+def declaration_header(unique_names: bool = False, tolerance: int | None = None, unjudged: int = 1, visibility: int = 1) -> bytes:
+    """A header of version 1; of version 2, where a tolerance is given, or a rule that isn't that of version 1."""
+    if tolerance is None and (unjudged, visibility) == (1, 1):
         return structure(0x540030, integer(0x540002, 1), boolean(0x540031, unique_names))
-    rules = enumeration(0x540035, 1), integer(0x540036, tolerance), enumeration(0x540037, 1)
+    rules = enumeration(0x540035, unjudged), integer(0x540036, tolerance or 0), enumeration(0x540037, visibility)
     return structure(0x540030, integer(0x540002, 2), boolean(0x540031, unique_names), *rules)
+
+
+def own_line(tag: int) -> bytes:
+    """An attribute that the server itself may give an object at birth."""
+    return structure(0x54003B, enumeration(0x42013B, tag))
+
+
+def aside_entry(name: str) -> bytes:
+    """An identifier that is set aside."""
+    return structure(0x54003D, identifier(name))
 
 
 def row(reason: int, cause: int) -> bytes:
