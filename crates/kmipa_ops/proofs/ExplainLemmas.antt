@@ -130,6 +130,7 @@ took rules s p t ask answer u q sound readable bytes none is to =
       explains = explains_one rules s.now p t ask answer sound readable bytes none;
       sound = (item_step rules s.now p t ask answer sound readable bytes none).kept;
       marks = refl;
+      left = refl;
     }))
 
 -- but for want of memory the ledger stays sound

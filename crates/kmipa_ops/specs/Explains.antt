@@ -1,7 +1,7 @@
 -- What a ledger may claim of the items that it took: one choice of bytes for every secret that ever existed meets them all.
 use Rattle.std.specs.Prelude.{◌≡◌, ◌≤◌, ◌<◌, ◌⊎◌, ◌↔◌, ◌||◌, ◌==◌, ℕ, ℤ, Bool, true, List, [], ◌∷◌, length, All, Option, Some, None, Result, Ok, Err}
 use Rattle.kmipa_object.specs.Inventory.{Thing}
-use Rattle.kmipa_store.specs.Ledger.{Meaning, LedgerState, bytes_at}
+use Rattle.kmipa_store.specs.Ledger.{Meaning, LedgerState, bytes_at, changed}
 use Rattle.kmipa_store.specs.Choices.{Choice, Chooses, Agrees, inv, IsSound, Extends}
 use Rattle.kmipa_msgs.specs.Operations.{operation_number}
 use Rattle.kmipa_msgs.specs.Messages.{RulesOf, AskedOf, AskOf, operation_asked, PayloadOf, got, AnswerOf}
@@ -13,6 +13,7 @@ use Rattle.kmipa_ops.specs.Rows.{asked_judging, asked_row}
 use Rattle.kmipa_ops.specs.Objects.{is_other}
 use Rattle.kmipa_ops.specs.Completes.{DoesSome, can_judge}
 use Rattle.kmipa_ops.specs.Chains.{ChainSome}
+use Rattle.kmipa_ops.specs.After.{after as leaves_after}
 use Rattle.kmipa_ops.specs.Ascending.{SecretsAscend}
 use Rattle.kmipa_ops.specs.Blame.{lowest}
 
@@ -56,6 +57,8 @@ pub record Took (rules : RulesOf) (s : LedgerState) (before : Option (List ℕ))
   pub explains : Explains rules t s.now before ((ask, answer) ∷ []) u.now after
   pub sound : IsSound u.now
   pub marks : u.marks ≡ s.marks
+  -- and the ledger is what the item leaves, so that whatever is set aside stays so
+  pub left : u ≡ changed s (leaves_after answer.status s.now before t ask.asked answer.payload)
 
 -- what taking an item comes to: from a ledger `s` and a placeholder `before` to `u` and `after`
 abbrev pub Taken : RulesOf → LedgerState → Option (List ℕ) → ℤ → AskOf → AnswerOf → Result (Unit {0}) Refusal → LedgerState → Option (List ℕ) → Type 0

@@ -255,8 +255,8 @@ pub among_from : (before : Option (List ℕ)) (asks : List AskOf) (answers : Lis
     → IsUnheldAmong before (drop place asks) (drop place answers)
 among_from before asks answers place ask answer asked said u =
     let T : ℕ → Type 0 = λ n.
-        IsUnheld before ask answer
-        ⊎ ((is_whole answer.status answer.payload ≡ true) × IsUnheldAmong (held_after before ask.asked answer.status answer.payload) (drop n asks) (drop n answers)) in
+    IsUnheld before ask answer
+    ⊎ ((is_whole answer.status answer.payload ≡ true) × IsUnheldAmong (held_after before ask.asked answer.status answer.payload) (drop n asks) (drop n answers)) in
     let Q : List AskOf → Type 0 = λ xs. IsUnheldAmong before xs (drop place answers) in
     let R : List AnswerOf → Type 0 = λ ys. IsUnheldAmong before (ask ∷ drop (suc place) asks) ys in
     subst Q (sym (cons_at asks place ask asked)) (subst R (sym (cons_at answers place answer said)) (subst T (next place) u))

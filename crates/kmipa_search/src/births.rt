@@ -63,7 +63,11 @@ impl GivenAtBirth {
 
     fn of_call(&self, place: usize) -> &[Given] {
         let start = self.starts.get(place).copied().unwrap_or(0);
-        let end = self.starts.get(place.saturating_add(1)).copied().unwrap_or(0);
+        let end = self
+            .starts
+            .get(place.saturating_add(1))
+            .copied()
+            .unwrap_or(0);
         self.all.get(start..end).unwrap_or(&[])
     }
 }
@@ -204,7 +208,11 @@ impl<'b> Births<'b> {
         }
         match &answer.payload {
             Some(Payload::Get(got)) => object.note_got(got),
-            Some(Payload::GetAttributes(got)) => object.note_attributes(alloc, end, &got.attributes)?,
+            Some(Payload::GetAttributes(got)) => object.note_attributes(
+                alloc,
+                end,
+                &got.attributes,
+            )?,
             _ => {}
         }
         Ok(())

@@ -122,7 +122,13 @@ fn born_request<'a>(
     let Some(response) = &call.response else {
         return Ok(None);
     };
-    match born_in(alloc, &Grants::of(declaration), &call.request, response, &births) {
+    match born_in(
+        alloc,
+        &Grants::of(declaration),
+        &call.request,
+        response,
+        &births,
+    ) {
         Ok(Posed::Completed(full)) => Ok(Some(Box::into_inner(full))),
         Ok(Posed::Recorded(_)) => Ok(None),
         Err(StepFault::Memory) => Err(CheckFault::Memory),

@@ -20,6 +20,7 @@ use std::alloc::{AllocError, Global};
 
 /// So many tries of all calls are made at moments, and so many besides with births.
 const TRIES: u64 = 2;
+
 const TRIES_WITH_BIRTHS: u64 = 3;
 
 /// So many steps of a budget a search at Time Stamps may make. Where the declaration has a tolerance or own lines, those are left out in which each

@@ -26,7 +26,7 @@ places-preserved c = λ u.
     let asked : vec_len c.args.request.now.items ≡ length c.args.request.now.items.items = search rules in
     let said : vec_len c.args.response.now.items ≡ length c.args.response.now.items.items = search rules in
     let P : Option (List ℕ) → Type 0 = λ held.
-        IsUnheldAmong held (drop (c.places.place + 1) (map ask_of c.args.request.now.items.items)) (drop (c.places.place + 1) (map answer_of c.args.response.now.items.items)) in
+    IsUnheldAmong held (drop (c.places.place + 1) (map ask_of c.args.request.now.items.items)) (drop (c.places.place + 1) (map answer_of c.args.response.now.items.items)) in
     c.places.invariant
     (among_from (maybe_lent c.places.held) (map ask_of c.args.request.now.items.items) (map answer_of c.args.response.now.items.items) c.places.place
     (ask_of c.index-ask.result.now) (answer_of c.index-answer.result.now)
