@@ -19,7 +19,11 @@ pub use key_block::{KeyBlock, KeyFormat};
 pub use kind::OutsideKind;
 pub use laws::{one_payload, one_request, one_response, sayable_is_said};
 pub use operation::Operation;
-pub use reading::{read_payload, read_request, read_response};
+pub use reading::{
+    Unread, has_others, is_count, is_selective, item_count, lacks_order, message_parts,
+    read_answer, read_item, read_payload, read_references, read_request, read_response,
+    request_header, response_header, unless_there,
+};
 pub use request::{
     Activate, Ask, Asked, BatchOption, Create, Destroy, Get, GetAttributes, Locate, Register,
     Request, Revoke,

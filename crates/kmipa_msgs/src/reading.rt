@@ -23,6 +23,12 @@ mod revoke;
 mod rows;
 mod unread;
 
+pub use answer::read_answer;
+pub use ask::read_item;
+pub use get_attributes::{has_others, is_selective, read_references};
+pub use header::{is_count, item_count, message_parts};
 pub use payload::read_payload;
-pub use request::read_request;
-pub use response::read_response;
+pub use request::{lacks_order, read_request, request_header};
+pub use response::{read_response, response_header};
+pub use rows::unless_there;
+pub use unread::Unread;

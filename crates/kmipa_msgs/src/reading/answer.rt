@@ -56,8 +56,13 @@ pub fn read_answers<'a>(
     Ok(answers)
 }
 
+/// The item of a response that stands beside this item of the request, if there is one.
 #[tactic(auto, unfolding(crate::specs::Replies::answer_in))]
-fn read_answer<'a>(alloc: Global, ask: Option<&Ask>, view: &View<'a>) -> Result<Answer<'a>, Unread>
+pub fn read_answer<'a>(
+    alloc: Global,
+    ask: Option<&Ask>,
+    view: &View<'a>,
+) -> Result<Answer<'a>, Unread>
     ensures { Yields answer_of result (answer_in (option_map (λ a. ask_of a.now) ask.entry) (view_tree view.now)) }
 {
     let children = as_structure(view).ok_or(OutsideKind::Missing)?;

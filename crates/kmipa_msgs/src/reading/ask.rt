@@ -44,7 +44,7 @@ pub fn read_asks<'a>(
 }
 
 /// An item of a request; in one without order no item may mean the ID Placeholder.
-fn read_item<'a>(alloc: Global, unordered: bool, view: &View<'a>) -> Result<Ask<'a>, Unread>
+pub fn read_item<'a>(alloc: Global, unordered: bool, view: &View<'a>) -> Result<Ask<'a>, Unread>
     ensures { Yields ask_of result (item_in unordered (view_tree view.now)) }
 {
     let ask = read_ask(alloc, view)?;

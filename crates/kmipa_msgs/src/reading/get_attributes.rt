@@ -35,7 +35,7 @@ pub fn read_get_attributes<'a>(
 }
 
 /// The tags that Attribute References name as Enumerations.
-fn read_references(alloc: Global, payload: Children) -> Result<Vec<u32>, AllocError>
+pub fn read_references(alloc: Global, payload: Children) -> Result<Vec<u32>, AllocError>
     ensures { IfOk result (λ tags. tags.items ≡ references (view_trees payload.entry)) }
 {
     let mut tags = Vec::new(alloc);
@@ -60,14 +60,14 @@ fn reference(view: &View) -> Option<u32>
 }
 
 /// Whether there is an Attribute Reference of any type.
-fn is_selective(payload: Children) -> bool
+pub fn is_selective(payload: Children) -> bool
     ensures { result ≡ is_selective (view_trees payload.entry) }
 {
     first(payload, ATTRIBUTE_REFERENCE).is_some()
 }
 
 /// Whether there is an item beside the identifier and Attribute References as Enumerations.
-fn has_others(payload: Children) -> bool
+pub fn has_others(payload: Children) -> bool
     ensures { result ≡ has_others (view_trees payload.entry) }
 {
     some_other(payload) || payload.count_of(UNIQUE_IDENTIFIER) > 1

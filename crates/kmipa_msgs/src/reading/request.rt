@@ -49,7 +49,7 @@ fn request<'a>(alloc: Global, message: &View<'a>) -> Result<Request<'a>, ReadFau
 
 /// What a header says before so many items: the option, and whether they are to be done in order.
 #[tactic(auto, unfolding(crate::specs::Requests::order_said))]
-fn request_header(header: Children, items: usize) -> Result<(BatchOption, bool), OutsideKind>
+pub fn request_header(header: Children, items: usize) -> Result<(BatchOption, bool), OutsideKind>
     ensures { result ≡ order_said (view_trees header.entry) items }
 {
     let version = passing(is_version(header), (), OutsideKind::Version);
@@ -83,7 +83,7 @@ fn ordered(header: Children) -> Result<bool, OutsideKind>
 }
 
 /// Whether there are several items in no order.
-fn lacks_order(ordered: bool, items: usize) -> bool
+pub fn lacks_order(ordered: bool, items: usize) -> bool
     ensures { result ≡ lacks_order (There ordered) items }
 {
     !ordered && items > 1

@@ -48,7 +48,7 @@ fn response<'a>(
 
 /// The Time Stamp of a header before so many items.
 #[tactic(auto, unfolding(crate::specs::Responses::stamp_said))]
-fn response_header(header: Children, items: usize) -> Result<i64, OutsideKind>
+pub fn response_header(header: Children, items: usize) -> Result<i64, OutsideKind>
     ensures { result ≡ stamp_said (view_trees header.entry) items }
 {
     let version = passing(is_version(header), (), OutsideKind::Version);
