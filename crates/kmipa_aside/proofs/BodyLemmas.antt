@@ -23,10 +23,10 @@ module _ {X : Type 0} where
   updated_agree (z ∷ xs) (suc n) f g x e h = ap (λ (ys : List X). z ∷ ys) (updated_agree xs n f g x e h)
 
 -- the secrets of a list that comes from another stay apart
-abbrev ComesFrom : List Held → List Held → Type 0
+abbrev pub ComesFrom : List Held → List Held → Type 0
 ComesFrom new old = (p : ℕ) (g : Held) (s : SecretNo) → slice_get new p ≡ Some g → g.material ≡ Secret s → (h : Held) × (slice_get old p ≡ Some h) × (h.material ≡ Secret s)
 
-apart_from : (new old : List Held) → ComesFrom new old → SecretsApart old → SecretsApart new
+pub apart_from : (new old : List Held) → ComesFrom new old → SecretsApart old → SecretsApart new
 apart_from new old f a = record {
   apart = λ p q g h s t x y u v same.
       let i = f p g s x u in

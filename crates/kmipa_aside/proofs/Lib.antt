@@ -4,4 +4,5 @@ mod ScanLemmas
 mod SettingLemmas
 mod LawLemmas
 mod TakenLemmas
+mod PlainLemmas
 mod EverLemmas

@@ -1,12 +1,13 @@
 -- What calls of a ledger make of each world that it stands for, where they tell no bytes.
 use Rattle.std.specs.Prelude.{◌≡◌, ℕ, ℤ, List, map, drop, length, Option, Result, Ok, Err}
-use Rattle.kmipa_store.specs.Ledger.{Held, Meaning, LedgerState, cards_of}
+use Rattle.kmipa_store.specs.Ledger.{Held, Meaning, LedgerState, cards_of, with_aside}
 use Rattle.kmipa_store.specs.Choices.{Choice, IsSound}
 use Rattle.kmipa_passed.specs.Leaving.{HeldOf, held_of, leaves}
 use Rattle.kmipa_passed.specs.declared.leaving.Held.{Held as HeldBy}
 use Rattle.kmipa_aside.specs.Standing.{StandOf}
 use Rattle.kmipa_aside.specs.Worlds.{WorldOf, set_all_aside, set_each_aside, set_rest_aside, with_body, with_left}
 use Rattle.kmipa_aside.specs.Passed.{PassedOf}
+use Rattle.kmipa_aside.specs.Ever.{taken_in}
 use Rattle.kmipa_aside.specs.Explains.{SecretsApart, world}
 
 -- what is seen of a ledger
@@ -43,6 +44,11 @@ Turns change s (Err e) u = u.marks ≡ s.marks
 -- the object at a place is a body
 abbrev pub bodied : ℤ → Option ℕ → WorldOf → WorldOf
 bodied t place w = record w { things = with_body t place w.things }
+
+-- the identifier isn't set aside any more
+abbrev pub TakesIn : {E : Type 0} → Option (List ℕ) → LedgerState → Result (Unit {0}) E → LedgerState → Type 0
+TakesIn id s (Ok done) u = u ≡ with_aside s (taken_in id s.now.aside)
+TakesIn id s (Err e) u = u.marks ≡ s.marks
 
 -- what an item leaves that isn't judged
 abbrev pub TurnsPassed : {E : Type 0} → ℤ → PassedOf → HeldOf → LedgerState → Result HeldBy E → LedgerState → Type 0

@@ -1,10 +1,12 @@
 -- What the definitions say together.
-use Rattle.std.specs.Prelude.{◌≡◌, ◌≢◌, ℕ, ℤ, true, false, List, Some, slice_get}
+use Rattle.std.specs.Prelude.{◌≡◌, ◌≢◌, ℕ, ℤ, true, false, List, Option, Some, slice_get, ◌↔◌}
 use Rattle.kmipa_object.specs.Inventory.{Thing}
 use Rattle.kmipa_msgs.specs.Messages.{RulesOf, AskOf, AnswerOf}
 use Rattle.kmipa_store.specs.Aside.{is_any_aside}
+use Rattle.kmipa_ops.specs.Completes.{DoesSome}
 use Rattle.kmipa_passed.specs.Leaving.{HeldOf, unknown}
 use Rattle.kmipa_aside.specs.Cases.{case}
+use Rattle.kmipa_aside.specs.Ever.{DoesPlain, held_by, known}
 use Rattle.kmipa_aside.specs.Standing.{StandOf, is_aside}
 use Rattle.kmipa_aside.specs.Worlds.{WorldOf, stand, set_aside, set_all_aside, end_judging}
 use Rattle.kmipa_aside.specs.declared.case.Case.TheVariants.{AsEver}
@@ -22,3 +24,11 @@ pub record IdentifiersAreSetAside : Type 0 where
 abbrev pub AsEverWithoutAsides : Type 0
 AsEverWithoutAsides =
     (rules : RulesOf) (s : StandOf) (before : HeldOf) (ask : AskOf) (answer : AnswerOf) → is_any_aside s.aside ≡ false → before ≢ unknown → case rules s before ask answer ≡ AsEver
+
+-- and it does exactly what it does without this layer: the things go on, and nothing is set aside
+abbrev pub PlainWithoutAsides : Type 0
+PlainWithoutAsides =
+    (rules : RulesOf) (t : ℤ) (ask : AskOf) (answer : AnswerOf) (w : WorldOf) (before : HeldOf) (w' : WorldOf) (after : HeldOf) → is_any_aside w.aside ≡ false → before ≢ unknown
+    → DoesPlain rules t ask answer w before w' after
+    ↔ ((V : List Thing) × (held : Option (List ℕ)) × DoesSome rules w.things (known before) t ask answer V held × (w' ≡ record w { things = V })
+    × (after ≡ held_by answer.status before answer.payload))

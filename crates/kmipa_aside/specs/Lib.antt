@@ -4,7 +4,11 @@ pub mod Passed
 pub mod Aims
 pub mod Cases
 pub mod Does
+pub mod Lists
+pub mod Graves
+pub mod Ever
 pub mod Explains
+pub mod Births
 pub mod Becoming
 pub mod Taking
 pub mod Identifiers

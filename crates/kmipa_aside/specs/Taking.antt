@@ -1,8 +1,9 @@
 -- What taking a place comes to.
-use Rattle.std.specs.Prelude.{◌≡◌, ℕ, ℤ, List, Option, Some, None, Result, Ok, Err, find}
+use Rattle.std.specs.Prelude.{◌≡◌, ℕ, ℤ, true, false, List, [], ◌∷◌, Option, Some, None, Result, Ok, Err, find}
 use Rattle.kmipa_store.specs.Ledger.{LedgerState}
 use Rattle.kmipa_msgs.specs.Messages.{RulesOf, AskOf, AnswerOf}
-use Rattle.kmipa_ops.specs.Blame.{frame_speaks}
+use Rattle.kmipa_ops.specs.Blame.{frame_speaks, lowest}
+use Rattle.kmipa_ops.specs.Explains.{BringsOrShows}
 use Rattle.kmipa_ops.specs.Whys.{whys}
 use Rattle.kmipa_ops.specs.declared.why.Why.{Why}
 use Rattle.kmipa_ops.specs.declared.why.Refusal.{Refusal}
@@ -14,6 +15,7 @@ use Rattle.kmipa_aside.specs.Passed.{PassedOf, DoesPassed, DoesUnread}
 use Rattle.kmipa_aside.specs.Becoming.{stand_in}
 use Rattle.kmipa_aside.specs.Cases.{case}
 use Rattle.kmipa_aside.specs.Does.{DoesExcused, IsExcused}
+use Rattle.kmipa_aside.specs.Ever.{DoesPlain, is_plain, judged_by}
 use Rattle.kmipa_aside.specs.Explains.{Took, Refutes}
 use Rattle.kmipa_aside.specs.declared.case.Case.TheVariants.{AsEver}
 
@@ -43,3 +45,21 @@ TakenExcused rules s before t ask answer (Ok (Some after)) u = Took (DoesExcused
 TakenExcused rules s before t ask answer (Err (Impossible why)) u =
     IsExcused (case rules (stand_in s.now) before ask answer) × (frame_lowest ask answer ≡ Some why) × Refutes (DoesExcused rules t ask answer) s.now before × (u ≡ s)
 TakenExcused rules s before t ask answer (Err Memory) u = u.marks ≡ s.marks
+
+-- what an item tells: the bytes that its request brings, and those that its answer shows
+abbrev pub Tells : AskOf → AnswerOf → List ℕ → Type 0
+Tells ask answer bytes = BringsOrShows ((ask, answer) ∷ []) bytes
+
+-- a judged item that is judged as ever, and lists nothing that is set aside
+abbrev pub TakenAsEver : RulesOf → LedgerState → HeldOf → ℤ → AskOf → AnswerOf → Result Held Refusal → LedgerState → Type 0
+TakenAsEver rules s before t ask answer (Ok after) u = Took (DoesPlain rules t ask answer) (Tells ask answer) s before u (held_of after)
+TakenAsEver rules s before t ask answer (Err (Impossible why)) u =
+    (is_plain rules (stand_in s.now) before ask answer ≡ true) × (lowest rules s.now (judged_by before answer) t ask answer ≡ Some why)
+    × Refutes (DoesPlain rules t ask answer) s.now before × (u ≡ s)
+TakenAsEver rules s before t ask answer (Err Memory) u = u.marks ≡ s.marks
+
+-- nothing is done here of another one
+abbrev pub TakenPlain : RulesOf → LedgerState → HeldOf → ℤ → AskOf → AnswerOf → Result (Option Held) Refusal → LedgerState → Type 0
+TakenPlain rules s before t ask answer (Ok None) u = (is_plain rules (stand_in s.now) before ask answer ≡ false) × (u ≡ s)
+TakenPlain rules s before t ask answer (Ok (Some after)) u = TakenAsEver rules s before t ask answer (Ok after) u
+TakenPlain rules s before t ask answer (Err refusal) u = TakenAsEver rules s before t ask answer (Err refusal) u

@@ -21,7 +21,7 @@ pub(crate) fn aim<'p>(before: Held<'p>, ask: &'p Ask<'p>, answer: &'p Answer<'p>
 }
 
 /// Where nobody can tell what the placeholder held, the object that is shown is meant.
-fn or_shown<'p>(before: Held<'p>, shown: Option<&'p str>) -> Held<'p>
+pub(crate) fn or_shown<'p>(before: Held<'p>, shown: Option<&'p str>) -> Held<'p>
     ensures { held_of result ≡ or_shown (held_of before.entry) (maybe_lent shown.entry) }
 {
     match (before, shown) {
@@ -33,7 +33,7 @@ fn or_shown<'p>(before: Held<'p>, shown: Option<&'p str>) -> Held<'p>
 }
 
 /// The identifier that an answer shows of the object that its item is about, where it says that this was done.
-fn id_shown<'p>(answer: &'p Answer<'p>) -> Option<&'p str>
+pub(crate) fn id_shown<'p>(answer: &'p Answer<'p>) -> Option<&'p str>
     ensures { maybe_lent result ≡ id_shown answer.now.status (answer_of answer.now).payload }
 {
     match answer.status {

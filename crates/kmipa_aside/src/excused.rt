@@ -48,7 +48,7 @@ pub fn take_excused<'p, L: Ledger>(
     }
 }
 
-fn is_as_ever(case: Case) -> bool
+pub(crate) fn is_as_ever(case: Case) -> bool
     ensures { result ≡ is_as_ever case }
 {
     match case {

@@ -1,6 +1,6 @@
 //! What the definitions say together.
 
-ghost use Rattle.kmipa_aside.specs.Identifiers.{AsEverWithoutAsides, IdentifiersAreSetAside};
+ghost use Rattle.kmipa_aside.specs.Identifiers.{AsEverWithoutAsides, IdentifiersAreSetAside, PlainWithoutAsides};
 
 /// An identifier that is set aside is so, and what is judged of others stays. Where all are set aside, or judging is over, every identifier is.
 pub fn identifiers_are_set_aside()
@@ -10,4 +10,9 @@ pub fn identifiers_are_set_aside()
 /// Where nothing is set aside, and the ID Placeholder is known, each item is judged as ever.
 pub fn as_ever_without_asides()
     ensures { AsEverWithoutAsides }
+{}
+
+/// And it does exactly what it does without this layer.
+pub fn plain_without_asides()
+    ensures { PlainWithoutAsides }
 {}
