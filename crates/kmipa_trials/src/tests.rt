@@ -12,6 +12,7 @@ mod leaving;
 mod ledgers;
 mod lives;
 mod messages;
+mod places;
 mod reading;
 mod refuting;
 mod searching;

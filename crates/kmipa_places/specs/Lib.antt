@@ -1,0 +1,6 @@
+pub mod Told
+pub mod Outcomes
+pub mod Places
+pub mod Unread
+pub mod Calls
+pub mod Readings

@@ -1,0 +1,158 @@
+//! Items of requests, which may mean the ID Placeholder by the Enumeration 1 (KMIP 2.1, section 11).
+
+ghost use Rattle.std.specs.Prelude.{◌≡◌};
+ghost use Rattle.std.specs.Option.{option_map};
+ghost use Rattle.kmipa_ttlv.specs.ViewTree.{view_tree, view_trees};
+ghost use Rattle.kmipa_attrs.specs.Fields.{first};
+ghost use Rattle.kmipa_attrs.specs.Tags.{unique_identifier};
+ghost use Rattle.kmipa_msgs.specs.Asks.{item_in};
+ghost use Rattle.kmipa_msgs.specs.Messages.{ask_of, asked_of};
+ghost use Rattle.kmipa_msgs.specs.Yields.{Yields};
+ghost use Rattle.kmipa_places.specs.Readings.{asked_beside, item_beside, told_operation};
+ghost use Rattle.kmipa_places.specs.Told.{is_on_object, is_placeholder, is_some_placeholder, told};
+
+use crate::item::{children_of, operation_at};
+use kmipa_attrs::Field;
+use kmipa_attrs::fields::{bytes_at, enumeration_at, first, inside};
+use kmipa_attrs::tags::{
+    KEY_WRAPPING_SPECIFICATION, REQUEST_PAYLOAD, REVOCATION_REASON, REVOCATION_REASON_CODE,
+    UNIQUE_BATCH_ITEM_ID, UNIQUE_IDENTIFIER,
+};
+use kmipa_msgs::{
+    Activate, Ask, Asked, Destroy, Get, GetAttributes, Operation, OutsideKind, Revoke, Unread,
+    has_others, is_selective, read_item, read_references, unless_there,
+};
+use kmipa_ttlv::{Children, View, ViewValue};
+use std::alloc::Global;
+
+/// The Enumeration by which a request means the ID Placeholder.
+const ID_PLACEHOLDER: u32 = 1;
+
+/// What an item of a request with or without order asks for: the Enumeration that means the ID Placeholder is read as no identifier.
+pub fn read_told<'a>(alloc: Global, unordered: bool, item: &View<'a>) -> Result<Ask<'a>, Unread>
+    ensures { Yields ask_of result (item_in unordered (told (view_tree item.now))) }
+{
+    match told_operation(item) {
+        Some(operation) => read_beside(alloc, unordered, operation, item),
+        None => read_item(alloc, unordered, item),
+    }
+}
+
+/// The operation of an item that means the ID Placeholder so.
+fn told_operation(item: &View) -> Option<Operation>
+    ensures { result ≡ told_operation (view_tree item.now) }
+{
+    let Field::There(number) = operation_at(item) else {
+        return None;
+    };
+    let operation = Operation::of(number);
+    let payload = inside(children_of(item), REQUEST_PAYLOAD);
+    if is_on_object(operation) && means_placeholder(payload) {
+        Some(operation)
+    } else {
+        None
+    }
+}
+
+/// Whether an operation is on an object.
+fn is_on_object(operation: Operation) -> bool
+    ensures { result ≡ is_on_object operation }
+{
+    match operation {
+        Operation::Get
+        | Operation::GetAttributes
+        | Operation::Activate
+        | Operation::Revoke
+        | Operation::Destroy => true,
+        Operation::Create
+        | Operation::Register
+        | Operation::Locate
+        | Operation::Idle(_)
+        | Operation::Other(_) => false,
+    }
+}
+
+/// Whether the Unique Identifier of a payload is the Enumeration that means the ID Placeholder.
+fn means_placeholder(payload: Children) -> bool
+    ensures { result ≡ is_some_placeholder (first unique_identifier (view_trees payload.entry)) }
+{
+    match first(payload, UNIQUE_IDENTIFIER) {
+        Some(identifier) => is_placeholder(&identifier),
+        None => false,
+    }
+}
+
+fn is_placeholder(identifier: &View) -> bool
+    ensures { result ≡ is_placeholder (view_tree identifier.now) }
+{
+    match &identifier.value {
+        ViewValue::Enumeration(number) => *number == ID_PLACEHOLDER,
+        ViewValue::Structure(_)
+        | ViewValue::Integer(_)
+        | ViewValue::LongInteger(_)
+        | ViewValue::BigInteger(_)
+        | ViewValue::Boolean(_)
+        | ViewValue::Text(_)
+        | ViewValue::Bytes(_)
+        | ViewValue::DateTime(_)
+        | ViewValue::Interval(_)
+        | ViewValue::DateTimeExtended(_) => false,
+    }
+}
+
+/// What such an item asks for: in a request without order it may not stand.
+fn read_beside<'a>(
+    alloc: Global,
+    unordered: bool,
+    operation: Operation,
+    item: &View<'a>,
+) -> Result<Ask<'a>, Unread>
+    ensures { Yields ask_of result (item_beside unordered operation (view_tree item.now)) }
+{
+    let children = children_of(item);
+    let asked = read_asked(alloc, operation, inside(children, REQUEST_PAYLOAD))?;
+    if unordered {
+        return Err(Unread::Outside(OutsideKind::Unordered));
+    }
+    Ok(Ask {
+        batch_id: bytes_at(children, UNIQUE_BATCH_ITEM_ID).value(),
+        asked,
+    })
+}
+
+/// What a payload asks for beside the identifier; no other operation is on an object.
+fn read_asked<'a>(
+    alloc: Global,
+    operation: Operation,
+    payload: Children,
+) -> Result<Asked<'a>, Unread>
+    ensures { Yields asked_of result (asked_beside operation (view_trees payload.entry)) }
+{
+    match operation {
+        Operation::Get => {
+            unless_there(payload, KEY_WRAPPING_SPECIFICATION, OutsideKind::Wrapped)?;
+            Ok(Asked::Get(Get { id: None }))
+        }
+        Operation::GetAttributes => Ok(Asked::GetAttributes(GetAttributes {
+            id: None,
+            references: read_references(alloc, payload)?,
+            is_selective: is_selective(payload),
+            has_others: has_others(payload),
+        })),
+        Operation::Activate => Ok(Asked::Activate(Activate { id: None })),
+        Operation::Revoke => {
+            let reason = inside(payload, REVOCATION_REASON);
+            let code = enumeration_at(reason, REVOCATION_REASON_CODE);
+            Ok(Asked::Revoke(Revoke {
+                id: None,
+                code: code.needed(OutsideKind::Missing, OutsideKind::Missing)?,
+            }))
+        }
+        Operation::Destroy => Ok(Asked::Destroy(Destroy { id: None })),
+        Operation::Create
+        | Operation::Register
+        | Operation::Locate
+        | Operation::Idle(_)
+        | Operation::Other(_) => Err(Unread::Outside(OutsideKind::Missing)),
+    }
+}
