@@ -146,7 +146,8 @@ class Strangers(Laboratory):
             await asyncio.gather(*tasks)
             return "".join(left)
 
-        # s has begun its handshake, - has said nothing: who has just come stays among many in the handshake, and the other way about.
+        # s has begun its handshake, - has said nothing: who has just come stays among many in the handshake,
+        # and the other way about.
         self.assertEqual(asyncio.run(some("ssss-")), "01243")
         self.assertEqual(asyncio.run(some("s----")), "12340")
         self.assertEqual(asyncio.run(some("s-s-s")), "01234")

@@ -49,8 +49,8 @@ class Admission:
             self._shaking[task] = None
 
     def drop_oldest(self) -> None:
-        """Ends one connection that has shown no certificate: the oldest of those that said nothing, or of those in the handshake, of
-        whichever there are more. So whoever comes between many of one sort stays, and is not the only one of the other."""
+        """Ends one connection that has shown no certificate: the oldest of those that said nothing, or of those in the
+        handshake, of whichever there are more. So whoever comes stays, where he is among few of his sort."""
         unknown = self._shaking if len(self._shaking) > len(self._silent) else self._silent
         oldest = next(iter(unknown), None)
         if oldest is None:
