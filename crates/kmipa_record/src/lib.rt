@@ -11,6 +11,7 @@ mod allow_line;
 mod append;
 mod aside;
 mod birth;
+mod call;
 mod calls;
 mod declaration;
 mod declaration_header;
@@ -53,6 +54,7 @@ mod witness_writing;
 
 pub use allow_line::is_new_cell;
 pub use birth::Birth;
+pub use call::Call;
 pub use declaration::{
     Declaration, read_declaration, read_declaration_into, read_declaration_within,
 };

@@ -9,8 +9,10 @@ use kmipa_msgs::{Unjudged, Visibility};
 /// How far a file goes that is read or written.
 #[derive(Clone, Copy)]
 pub enum Reach {
-    /// As far as calls are judged by it: no further than `read_declaration` and `read_witness` go.
+    /// As far as calls are judged by it where nothing is set aside: no further than `read_declaration` and `read_witness` go.
     Judged,
+    /// As far as calls are judged by it beside what is set aside.
+    Aside,
     /// All that the format has.
     Whole,
 }
@@ -22,6 +24,10 @@ impl Reach {
     {
         match self {
             Reach::Whole => true,
+            Reach::Aside => match settings.visibility {
+                Visibility::Everyone => true,
+                Visibility::MayHide | Visibility::MustHide => false,
+            },
             Reach::Judged => match (settings.unjudged, settings.visibility) {
                 (Unjudged::Refused | Unjudged::SetAside, Visibility::Everyone) => true,
                 _ => false,
@@ -35,8 +41,8 @@ impl Reach {
     {
         match (self, settings.unjudged) {
             (Reach::Judged, _) => false,
-            (Reach::Whole, Unjudged::Refused) => false,
-            (Reach::Whole, Unjudged::SetAside | Unjudged::Unknown) => true,
+            (Reach::Aside | Reach::Whole, Unjudged::Refused) => false,
+            (Reach::Aside | Reach::Whole, Unjudged::SetAside | Unjudged::Unknown) => true,
         }
     }
 }
