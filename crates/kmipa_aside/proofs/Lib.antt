@@ -1,8 +1,14 @@
 mod NearLemmas
 mod BodyLemmas
 mod ScanLemmas
+mod NamesLemmas
 mod SettingLemmas
 mod LawLemmas
 mod TakenLemmas
 mod PlainLemmas
+mod RepeatLemmas
+mod ListingLemmas
+mod WithoutLemmas
+mod RebornLemmas
 mod EverLemmas
+mod PlaceLemmas

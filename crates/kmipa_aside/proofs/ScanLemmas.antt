@@ -1,5 +1,5 @@
 -- Tests of the elements of a list, seen through a function or from a place on.
-use Rattle.std.proofs.Common.{◌≡◌, ◌∙◌, ◌||◌, ◌+◌, ◌≤◌, ℕ, zero, suc, Bool, true, false, List, [], ◌∷◌, length, map, drop, slice_get, Some, refl, ap, sym, arith}
+use Rattle.std.proofs.Common.{◌≡◌, ◌∙◌, ◌||◌, ◌&&◌, ◌+◌, ◌≤◌, ℕ, zero, suc, Bool, true, false, List, [], ◌∷◌, length, map, drop, slice_get, Some, refl, ap, sym, arith}
 use Rattle.std.specs.List.{list_any}
 
 pub any_map : {X Y : Type 0} (p : Y → Bool) (f : X → Y) (xs : List X) → list_any p (map f xs) ≡ list_any (λ (x : X). p (f x)) xs
@@ -29,3 +29,33 @@ any_here p xs i x e h = any_step p xs i x e ∙ ap (λ (b : Bool). b || list_any
 pub length-map : {X Y : Type 0} (f : X → Y) (xs : List X) → length (map f xs) ≡ length xs
 length-map f [] = refl
 length-map f (x ∷ xs) = ap suc (length-map f xs)
+
+pub any_same : {X : Type 0} (p q : X → Bool) → ((x : X) → p x ≡ q x) → (xs : List X) → list_any p xs ≡ list_any q xs
+any_same p q e [] = refl
+any_same p q e (x ∷ xs) = ap (λ (b : Bool). b || list_any p xs) (e x) ∙ ap (λ (b : Bool). q x || b) (any_same p q e xs)
+
+-- ---- two lists
+
+any_false : {X : Type 0} (xs : List X) → list_any (λ (x : X). false) xs ≡ false
+any_false [] = refl
+any_false (x ∷ xs) = any_false xs
+
+or_mix : (a b c d : Bool) → ((a || b) || (c || d)) ≡ ((a || c) || (b || d))
+or_mix true b c d = refl
+or_mix false true true d = refl
+or_mix false true false d = refl
+or_mix false false c d = refl
+
+any_or : {X : Type 0} (f g : X → Bool) (xs : List X) → list_any (λ (x : X). f x || g x) xs ≡ (list_any f xs || list_any g xs)
+any_or f g [] = refl
+any_or f g (x ∷ xs) = ap (λ (b : Bool). (f x || g x) || b) (any_or f g xs) ∙ or_mix (f x) (g x) (list_any f xs) (list_any g xs)
+
+-- the order in which two lists are gone through
+pub any_swap : {X Y : Type 0} (r : X → Y → Bool) (xs : List X) (ys : List Y) → list_any (λ (x : X). list_any (λ (y : Y). r x y) ys) xs ≡ list_any (λ (y : Y). list_any (λ (x : X). r x y) xs) ys
+any_swap {X} r xs [] = any_false xs
+any_swap {X} {Y} r xs (y ∷ ys) =
+    any_or (λ (x : X). r x y) (λ (x : X). list_any (λ (z : Y). r x z) ys) xs ∙ ap (λ (b : Bool). list_any (λ (x : X). r x y) xs || b) (any_swap r xs ys)
+
+pub any_and : {X : Type 0} (b : Bool) (p : X → Bool) (xs : List X) → (b && list_any p xs) ≡ list_any (λ (x : X). b && p x) xs
+any_and true p xs = refl
+any_and false p xs = sym (any_false xs)

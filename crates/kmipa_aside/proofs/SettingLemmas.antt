@@ -68,14 +68,14 @@ mapped_at f [] i d h = absurd (omega arith)
 mapped_at f (x ∷ xs) zero d h = refl
 mapped_at f (x ∷ xs) (suc i) d h = mapped_at f xs i d (omega arith)
 
-drop_here : {X : Type 0} (xs : List X) (i : ℕ) (x : X) → slice_get xs i ≡ Some x → drop i xs ≡ x ∷ drop (i + 1) xs
+pub drop_here : {X : Type 0} (xs : List X) (i : ℕ) (x : X) → slice_get xs i ≡ Some x → drop i xs ≡ x ∷ drop (i + 1) xs
 drop_here [] i x e = cc
 drop_here {X} (y ∷ xs) zero x e = let q : y ≡ x = cc in ap (λ (z : X). z ∷ xs) q
 drop_here {X} (y ∷ xs) (suc i) x e =
     let more : suc i + 1 ≡ suc (i + 1) = omega arith in
     drop_here xs i x e ∙ ap (λ (n : ℕ). x ∷ drop n (y ∷ xs)) (sym more)
 
-drop_past : {X : Type 0} (xs : List X) (i : ℕ) → length xs ≤ i → drop i xs ≡ []
+pub drop_past : {X : Type 0} (xs : List X) (i : ℕ) → length xs ≤ i → drop i xs ≡ []
 drop_past [] zero h = refl
 drop_past [] (suc i) h = refl
 drop_past (x ∷ xs) zero h = absurd (omega arith)

@@ -1,6 +1,7 @@
 -- The body whose identifier a new object has (profile).
-use Rattle.std.specs.Prelude.{◌&&◌, ℕ, Bool, false, not, if◌then◌else◌, List, Option, Some, None, slice_get}
+use Rattle.std.specs.Prelude.{◌&&◌, ℕ, zero, suc, Bool, false, not, if◌then◌else◌, List, [], ◌∷◌, Option, Some, None, slice_get}
 use Rattle.kmipa_object.specs.Inventory.{Card, live, place_of}
+use Rattle.kmipa_store.specs.Ledger.{Meaning}
 use Rattle.kmipa_msgs.specs.Messages.{AskOf, AskedOf, AnswerOf, PayloadOf, created, creates, registered, registers}
 use Rattle.kmipa_msgs.specs.declared.response.Status.{Status}
 use Rattle.kmipa_msgs.specs.declared.response.Status.TheVariants.{Success, Failed, Undone}
@@ -34,3 +35,13 @@ new_by Failed asked payload = None
 -- the place of the body that its new object replaces
 abbrev pub grave : StandOf → AskOf → AnswerOf → Option ℕ
 grave s ask answer = body_of s (new_by answer.status ask.asked answer.payload)
+
+-- all but the element at a place
+abbrev pub without : {X : Type 0} → ℕ → List X → List X
+without place [] = []
+without zero (x ∷ xs) = xs
+without (suc place) (x ∷ xs) = x ∷ without place xs
+
+-- a ledger without the object at a place
+abbrev pub lacking : ℕ → Meaning → Meaning
+lacking place m = record { objects = without place m.objects; secrets = m.secrets; aside = m.aside }

@@ -8,7 +8,10 @@ pub mod Lists
 pub mod Graves
 pub mod Ever
 pub mod Explains
+pub mod Reborn
 pub mod Births
 pub mod Becoming
+pub mod Listing
 pub mod Taking
+pub mod Places
 pub mod Identifiers

@@ -1,6 +1,6 @@
 -- What taking a place comes to.
 use Rattle.std.specs.Prelude.{◌≡◌, ℕ, ℤ, true, false, List, [], ◌∷◌, Option, Some, None, Result, Ok, Err, find}
-use Rattle.kmipa_store.specs.Ledger.{LedgerState}
+use Rattle.kmipa_store.specs.Ledger.{LedgerState, Meaning}
 use Rattle.kmipa_msgs.specs.Messages.{RulesOf, AskOf, AnswerOf}
 use Rattle.kmipa_ops.specs.Blame.{frame_speaks, lowest}
 use Rattle.kmipa_ops.specs.Explains.{BringsOrShows}
@@ -16,6 +16,9 @@ use Rattle.kmipa_aside.specs.Becoming.{stand_in}
 use Rattle.kmipa_aside.specs.Cases.{case}
 use Rattle.kmipa_aside.specs.Does.{DoesExcused, IsExcused}
 use Rattle.kmipa_aside.specs.Ever.{DoesPlain, is_plain, judged_by}
+use Rattle.kmipa_aside.specs.Listing.{DoesListing, is_listing, listing_speaks}
+use Rattle.kmipa_aside.specs.Graves.{grave}
+use Rattle.kmipa_aside.specs.Reborn.{DoesReborn, is_reborn, lowest_beside}
 use Rattle.kmipa_aside.specs.Explains.{Took, Refutes}
 use Rattle.kmipa_aside.specs.declared.case.Case.TheVariants.{AsEver}
 
@@ -63,3 +66,25 @@ abbrev pub TakenPlain : RulesOf → LedgerState → HeldOf → ℤ → AskOf →
 TakenPlain rules s before t ask answer (Ok None) u = (is_plain rules (stand_in s.now) before ask answer ≡ false) × (u ≡ s)
 TakenPlain rules s before t ask answer (Ok (Some after)) u = TakenAsEver rules s before t ask answer (Ok after) u
 TakenPlain rules s before t ask answer (Err refusal) u = TakenAsEver rules s before t ask answer (Err refusal) u
+
+-- the lowest reason against a Locate that lists what is set aside
+abbrev pub listing_lowest : RulesOf → Meaning → HeldOf → ℤ → AskOf → AnswerOf → Option Why
+listing_lowest rules m before t ask answer = find (λ (why : Why). listing_speaks rules m before t ask answer why) whys
+
+-- such a Locate; nothing is done here of another item
+abbrev pub TakenListing : RulesOf → LedgerState → HeldOf → ℤ → AskOf → AnswerOf → Result (Option Held) Refusal → LedgerState → Type 0
+TakenListing rules s before t ask answer (Ok None) u = (is_listing rules (stand_in s.now) before ask answer ≡ false) × (u ≡ s)
+TakenListing rules s before t ask answer (Ok (Some after)) u = Took (DoesListing rules t ask answer) (Tells ask answer) s before u (held_of after)
+TakenListing rules s before t ask answer (Err (Impossible why)) u =
+    (is_listing rules (stand_in s.now) before ask answer ≡ true) × (listing_lowest rules s.now before t ask answer ≡ Some why) × Refutes (DoesListing rules t ask answer) s.now before
+    × (u ≡ s)
+TakenListing rules s before t ask answer (Err Memory) u = u.marks ≡ s.marks
+
+-- a judged item whose new object takes the place of a body; nothing is done here of another
+abbrev pub TakenReborn : RulesOf → LedgerState → HeldOf → ℤ → AskOf → AnswerOf → Result (Option Held) Refusal → LedgerState → Type 0
+TakenReborn rules s before t ask answer (Ok None) u = (is_reborn rules (stand_in s.now) before ask answer ≡ false) × (u ≡ s)
+TakenReborn rules s before t ask answer (Ok (Some after)) u = Took (DoesReborn rules t ask answer) (Tells ask answer) s before u (held_of after)
+TakenReborn rules s before t ask answer (Err (Impossible why)) u =
+    (is_reborn rules (stand_in s.now) before ask answer ≡ true) × (lowest_beside rules s.now before t ask answer (grave (stand_in s.now) ask answer) ≡ Some why)
+    × Refutes (DoesReborn rules t ask answer) s.now before × (u ≡ s)
+TakenReborn rules s before t ask answer (Err Memory) u = u.marks ≡ s.marks

@@ -1,5 +1,6 @@
 //! What the definitions say together.
 
+ghost use Rattle.kmipa_aside.specs.Places.{PlacesWithoutAsides};
 ghost use Rattle.kmipa_aside.specs.Identifiers.{AsEverWithoutAsides, IdentifiersAreSetAside, PlainWithoutAsides};
 
 /// An identifier that is set aside is so, and what is judged of others stays. Where all are set aside, or judging is over, every identifier is.
@@ -15,4 +16,9 @@ pub fn as_ever_without_asides()
 /// And it does exactly what it does without this layer.
 pub fn plain_without_asides()
     ensures { PlainWithoutAsides }
+{}
+
+/// So does a judged place of a call.
+pub fn places_without_asides()
+    ensures { PlacesWithoutAsides }
 {}

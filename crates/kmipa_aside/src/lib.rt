@@ -2,17 +2,20 @@
 #![tactic(auto)]
 
 mod aims;
+mod beside;
 mod birth;
 mod births;
 mod case;
 mod cases;
 mod excused;
 mod frame;
-mod graves;
 mod laws;
 mod lists;
+mod names;
 mod passed;
+mod placing;
 mod plain;
+mod reborn;
 mod setting;
 mod standing;
 mod taking;
@@ -20,8 +23,13 @@ mod taking;
 pub use case::Case;
 pub use cases::case_of;
 pub use excused::take_excused;
-pub use laws::{as_ever_without_asides, identifiers_are_set_aside, plain_without_asides};
+pub use laws::{
+    as_ever_without_asides, identifiers_are_set_aside, places_without_asides, plain_without_asides,
+};
+pub use lists::take_listing;
 pub use passed::Passed;
+pub use placing::take_judged;
 pub use plain::take_plain;
+pub use reborn::take_reborn;
 pub use standing::is_aside;
 pub use taking::{take_passed, take_unread};

@@ -14,8 +14,8 @@ ghost use Rattle.kmipa_aside.specs.Taking.{TakenAsEver, TakenPlain};
 use crate::aims::{id_shown, or_shown};
 use crate::cases::case_of;
 use crate::excused::is_as_ever;
-use crate::graves::has_grave;
 use crate::lists::is_touched;
+use crate::reborn::has_grave;
 use kmipa_msgs::{Answer, Ask, Payload, Rules, Status};
 use kmipa_ops::{Placeholder, Refusal, take};
 use kmipa_passed::Held;
@@ -50,7 +50,7 @@ pub fn take_plain<'p, L: Ledger>(
 }
 
 /// Takes an item that is so.
-fn take_as_ever<'p, L: Ledger>(
+pub(crate) fn take_as_ever<'p, L: Ledger>(
     alloc: Global,
     ledger: &mut L,
     rules: &Rules,
@@ -117,7 +117,7 @@ fn id_made<'p>(payload: &'p Option<Payload<'p>>) -> Option<&'p str>
 }
 
 /// From now on this identifier isn't set aside.
-fn take_in<L: Ledger>(ledger: &mut L, id: Option<&str>) -> Result<(), AllocError>
+pub(crate) fn take_in<L: Ledger>(ledger: &mut L, id: Option<&str>) -> Result<(), AllocError>
     ensures { TakesIn (maybe_lent id.entry) (L.state ledger.old) result (L.state ledger.new) }
 {
     let Some(id) = id else {
@@ -133,7 +133,7 @@ fn take_in<L: Ledger>(ledger: &mut L, id: Option<&str>) -> Result<(), AllocError
 }
 
 /// The placeholder by which an item is judged: where nobody can tell what it held, the object that the answer shows is meant.
-fn judged_by<'p>(
+pub(crate) fn judged_by<'p>(
     alloc: Global,
     before: Held<'p>,
     answer: &'p Answer<'p>,
@@ -155,7 +155,7 @@ fn known(alloc: Global, held: Held) -> Result<Placeholder, AllocError>
 }
 
 /// What the placeholder holds behind an item.
-fn held_behind<'p>(before: Held<'p>, answer: &'p Answer<'p>) -> Held<'p>
+pub(crate) fn held_behind<'p>(before: Held<'p>, answer: &'p Answer<'p>) -> Held<'p>
     ensures { held_of result ≡ held_by answer.now.status (held_of before.entry) (answer_of answer.now).payload }
 {
     match answer.status {
