@@ -4,3 +4,6 @@ pub mod ListLemmas
 pub mod CallLemmas
 pub mod UnreadLemmas
 pub mod OpenedLemmas
+pub mod UnreadableLemmas
+pub mod FitLemmas
+pub mod CountingLemmas

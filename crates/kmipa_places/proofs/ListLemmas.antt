@@ -103,7 +103,7 @@ some_place_unread unordered asides n [] us e = cc
 some_place_unread unordered asides n (t ∷ ts) [] e = cc
 some_place_unread unordered asides n (t ∷ ts) (u ∷ us) e =
     unread_place (place_in unordered (is_among asides n) t u) (places_in unordered asides (suc n) ts us) (is_none (outcome_at u)) (some_unread us)
-    (place_unread (outcome_at u) (place_by t u (way_in unordered (is_among asides n) t u))) (some_place_unread unordered asides (suc n) ts us) e
+    (place_unread (outcome_at u) (place_by unordered t u (way_in unordered (is_among asides n) t u))) (some_place_unread unordered asides (suc n) ts us) e
 
 -- ---- lists that are read one by one
 

@@ -17,6 +17,7 @@ use Rattle.kmipa_passed.specs.declared.passed.Outcome.{Outcome}
 use Rattle.kmipa_passed.specs.Passed.{request_says, answer_says}
 use Rattle.kmipa_aside.specs.Passed.{PassedOf}
 use Rattle.kmipa_places.specs.Told.{told}
+use Rattle.kmipa_places.specs.Unordered.{asks_in}
 use Rattle.kmipa_places.specs.Outcomes.{outcome_at}
 use Rattle.kmipa_places.specs.Places.{SaysPassed, is_poll, operation_at, AsksPassed, AnswersPassed, IsPassed, IsJudged, PlaceOf, judged, passed, IsPlace}
 use Rattle.kmipa_places.specs.Places.AsksPassed.{item_outside, polls}
@@ -111,29 +112,29 @@ one_way unordered aside t u w i = by (is_poll (operation_at t)) refl
 
 -- ---- the place
 
-passed_says : (t u : Tree) (outcome : Outcome) → outcome_at u ≡ Some outcome → SaysPassed t u (passed_as outcome t u)
-passed_says t u outcome e = record { asks = refl; names = refl; ask = refl; outcome = sym e; answer = refl }
+passed_says : (unordered : Bool) (t u : Tree) (outcome : Outcome) → outcome_at u ≡ Some outcome → SaysPassed unordered t u (passed_as unordered outcome t u)
+passed_says unordered t u outcome e = record { asks = refl; names = refl; ask = refl; outcome = sym e; answer = refl }
 
-by_way : (unordered aside : Bool) (t u : Tree) (w : WayOf) (outcome : Outcome) → outcome_at u ≡ Some outcome → IsWay unordered aside t u w → IsPlace unordered aside t u (place_by t u w outcome)
+by_way : (unordered aside : Bool) (t u : Tree) (w : WayOf) (outcome : Outcome) → outcome_at u ≡ Some outcome → IsWay unordered aside t u w → IsPlace unordered aside t u (place_by unordered t u w outcome)
 by_way unordered aside t u (judges ask answer) outcome e i = i
-by_way unordered aside t u (passes by) outcome e i = (i, passed_says t u outcome e)
+by_way unordered aside t u (passes by) outcome e i = (i, passed_says unordered t u outcome e)
 
 pub is_place : (unordered aside : Bool) (t u : Tree) (p : PlaceOf) → place_in unordered aside t u ≡ Some p → IsPlace unordered aside t u p
 is_place unordered aside t u p e = by (outcome_at u) refl e
   where
-    by : (o : Option Outcome) → outcome_at u ≡ o → option_map (place_by t u (way_in unordered aside t u)) o ≡ Some p → IsPlace unordered aside t u p
+    by : (o : Option Outcome) → outcome_at u ≡ o → option_map (place_by unordered t u (way_in unordered aside t u)) o ≡ Some p → IsPlace unordered aside t u p
     by None f g = cc
     by (Some outcome) f g =
-        let same : place_by t u (way_in unordered aside t u) outcome ≡ p = cc in
+        let same : place_by unordered t u (way_in unordered aside t u) outcome ≡ p = cc in
         subst (IsPlace unordered aside t u) same (by_way unordered aside t u (way_in unordered aside t u) outcome f (is_way unordered aside t u))
 
 -- what is said of a passed place is one thing
-one_passed : (t u : Tree) (p q : PassedOf) → SaysPassed t u p → SaysPassed t u q → p ≡ q
-one_passed t u p q a b =
+one_passed : (unordered : Bool) (t u : Tree) (p q : PassedOf) → SaysPassed unordered t u p → SaysPassed unordered t u q → p ≡ q
+one_passed unordered t u p q a b =
     let number : p.asks ≡ q.asks = a.asks ∙ sym b.asks in
     let names : p.names ≡ q.names = a.names ∙ sym b.names in
     let payload = inside request_payload (children t) in
-    let ask : p.ask ≡ q.ask = a.ask ∙ ap (λ (n : ℕ). request_says n payload) number ∙ sym b.ask in
+    let ask : p.ask ≡ q.ask = a.ask ∙ ap (λ (n : ℕ). asks_in unordered (request_says n payload)) number ∙ sym b.ask in
     let some : Some p.answer.outcome ≡ Some q.answer.outcome = a.outcome ∙ sym b.outcome in
     let outcome : p.answer.outcome ≡ q.answer.outcome = cc in
     let answer : p.answer ≡ q.answer = a.answer ∙ ap (λ (o : Outcome). answer_says o (at as_structure response_payload (children u))) outcome ∙ sym b.answer in
@@ -149,5 +150,5 @@ one_place unordered aside t u (passed by p) (judged a x) i j =
 one_place unordered aside t u (passed by p) (passed other q) i j =
     let same : passes by ≡ passes other = one_way unordered aside t u (passes by) i.0 ∙ sym (one_way unordered aside t u (passes other) j.0) in
     let e : by ≡ other = cc in
-    let f : p ≡ q = one_passed t u p q i.1 j.1 in
+    let f : p ≡ q = one_passed unordered t u p q i.1 j.1 in
     (λ k. passed (e k) (f k))

@@ -1,6 +1,10 @@
 pub mod Told
 pub mod Outcomes
+pub mod Unordered
 pub mod Places
 pub mod Unread
 pub mod Calls
+pub mod Fits
+pub mod Counting
 pub mod Readings
+pub mod Openings

@@ -13,6 +13,7 @@ use Rattle.kmipa_msgs.specs.Replies.{SaysAnswer, AnswerFault}
 use Rattle.kmipa_passed.specs.Passed.{request_says, answer_says}
 use Rattle.kmipa_aside.specs.Passed.{PassedOf, passed_of}
 use Rattle.kmipa_places.specs.Told.{told}
+use Rattle.kmipa_places.specs.Unordered.{asks_in}
 use Rattle.kmipa_places.specs.Outcomes.{outcome_at}
 use Rattle.kmipa_places.specs.declared.place.By.{By}
 use Rattle.kmipa_places.specs.declared.place.By.TheVariants.{Request, Answer, Witness}
@@ -45,12 +46,12 @@ names_to (There n) named = if n == poll then None else value_in named
 abbrev pub operation_at : Tree → Field ℕ
 operation_at t = at as_enumeration operation_tag (children t)
 
--- What the items of a request and of its response say of a place that is passed: 0 is asked for where the Operation can't be read, and the answer's is
--- not judged where one of both can't be, nor that of a Poll, which is answered for another call.
-pub record SaysPassed (t u : Tree) (p : PassedOf) : Type 0 where
+-- What the items of a request, with or without order, and of its response say of a place that is passed: 0 is asked for where the Operation can't be
+-- read, and the answer's is not judged where one of both can't be, nor that of a Poll, which is answered for another call.
+pub record SaysPassed (unordered : Bool) (t u : Tree) (p : PassedOf) : Type 0 where
   pub asks : p.asks ≡ number_in (operation_at t)
   pub names : p.names ≡ names_to (operation_at t) (operation_at u)
-  pub ask : p.ask ≡ request_says p.asks (inside request_payload (children t))
+  pub ask : p.ask ≡ asks_in unordered (request_says p.asks (inside request_payload (children t)))
   pub outcome : Some p.answer.outcome ≡ outcome_at u
   pub answer : p.answer ≡ answer_says p.answer.outcome (at as_structure response_payload (children u))
 
@@ -93,4 +94,4 @@ place_of (Place.TheVariants.Passed by p) = passed by (passed_of p)
 -- of a request with or without order; set aside by the witness or not; with these items of its request and its response
 abbrev pub IsPlace : Bool → Bool → Tree → Tree → PlaceOf → Type 0
 IsPlace unordered aside t u (judged ask answer) = IsJudged unordered aside t u ask answer
-IsPlace unordered aside t u (passed by p) = IsPassed unordered aside t u by × SaysPassed t u p
+IsPlace unordered aside t u (passed by p) = IsPassed unordered aside t u by × SaysPassed unordered t u p

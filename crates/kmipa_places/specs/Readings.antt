@@ -27,6 +27,7 @@ use Rattle.kmipa_passed.specs.declared.passed.Outcome.{Outcome}
 use Rattle.kmipa_aside.specs.Passed.{PassedOf}
 use Rattle.kmipa_places.specs.Told.{is_on_object, is_some_placeholder, told}
 use Rattle.kmipa_places.specs.Outcomes.{outcome_at, refuses}
+use Rattle.kmipa_places.specs.Unordered.{asks_in}
 use Rattle.kmipa_places.specs.Places.{PlaceOf, judged, passed, is_poll, names_to, number_in, operation_at}
 use Rattle.kmipa_places.specs.Unread.{is_among, allows_pending, left}
 use Rattle.kmipa_places.specs.Calls.{ReadOf, CallOf, unread, read}
@@ -65,11 +66,11 @@ item_beside unordered operation t = passing (λ ask. not unordered) Unordered (m
 
 -- ---- a place
 
-abbrev pub passed_as : Outcome → Tree → Tree → PassedOf
-passed_as outcome t u = record {
+abbrev pub passed_as : Bool → Outcome → Tree → Tree → PassedOf
+passed_as unordered outcome t u = record {
   asks = number_in (operation_at t);
   names = names_to (operation_at t) (operation_at u);
-  ask = request_says (number_in (operation_at t)) (inside request_payload (children t));
+  ask = asks_in unordered (request_says (number_in (operation_at t)) (inside request_payload (children t)));
   answer = answer_says outcome (at as_structure response_payload (children u));
 }
 
@@ -92,12 +93,12 @@ way_asked aside u (Ok ask) = way_answered aside ask (answer_in (Some ask) u)
 abbrev pub way_in : Bool → Bool → Tree → Tree → WayOf
 way_in unordered aside t u = if is_poll (operation_at t) then passes Request else way_asked aside u (item_in unordered (told t))
 
-abbrev pub place_by : Tree → Tree → WayOf → Outcome → PlaceOf
-place_by t u (judges ask answer) outcome = judged ask answer
-place_by t u (passes by) outcome = passed by (passed_as outcome t u)
+abbrev pub place_by : Bool → Tree → Tree → WayOf → Outcome → PlaceOf
+place_by unordered t u (judges ask answer) outcome = judged ask answer
+place_by unordered t u (passes by) outcome = passed by (passed_as unordered outcome t u)
 
 abbrev pub place_in : Bool → Bool → Tree → Tree → Option PlaceOf
-place_in unordered aside t u = option_map (place_by t u (way_in unordered aside t u)) (outcome_at u)
+place_in unordered aside t u = option_map (place_by unordered t u (way_in unordered aside t u)) (outcome_at u)
 
 -- ---- lists
 

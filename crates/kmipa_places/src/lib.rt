@@ -2,7 +2,10 @@
 #![tactic(auto)]
 
 mod asides;
+mod asking;
 mod call;
+mod counting;
+mod fit;
 mod item;
 mod laws;
 mod opened;
@@ -12,8 +15,12 @@ mod place;
 mod reading;
 mod told;
 mod unread;
+mod unreadable;
 
 pub use call::{Call, Readable};
+pub use counting::{UnreadCounts, count_unread, is_judged_operation};
+pub use fit::is_fit_answer;
 pub use laws::{one_call, some_call};
 pub use place::{By, Place};
 pub use reading::read_call;
+pub use unreadable::is_unread;

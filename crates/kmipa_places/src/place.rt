@@ -59,14 +59,14 @@ pub(crate) fn read_place<'a>(
     match read_way(alloc, unordered, aside, item, answer)? {
         Way::Judged(ask, answer) => Ok(Some(Place::Judged(ask, answer))),
         Way::Passed(by) => {
-            let passed = read_passed(alloc, outcome, item, answer)?;
+            let passed = read_passed(alloc, unordered, outcome, item, answer)?;
             Ok(Some(Place::Passed(by, passed)))
         }
     }
 }
 
 /// How a place is to be read: the first by which it is passed, else what is judged of it.
-fn read_way<'a>(
+pub(crate) fn read_way<'a>(
     alloc: Global,
     unordered: bool,
     aside: bool,

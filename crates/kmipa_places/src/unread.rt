@@ -42,14 +42,14 @@ pub fn left<'a>(
 }
 
 /// The children of a request whose items are counted.
-fn asked<'a>(request: Option<&View<'a>>) -> Option<Children<'a>>
+pub(crate) fn asked<'a>(request: Option<&View<'a>>) -> Option<Children<'a>>
     ensures { option_map (λ c. every batch_item (view_trees c)) result ≡ asked (message_of request.entry) }
 {
     counted(request?, REQUEST_MESSAGE, REQUEST_HEADER)
 }
 
 /// The children of a response whose items are counted.
-fn answered<'a>(response: Option<&View<'a>>) -> Option<Children<'a>>
+pub(crate) fn answered<'a>(response: Option<&View<'a>>) -> Option<Children<'a>>
     ensures { option_map (λ c. every batch_item (view_trees c)) result ≡ answered (message_of response.entry) }
 {
     counted(response?, RESPONSE_MESSAGE, RESPONSE_HEADER)
@@ -127,7 +127,7 @@ fn left_by<'a>(
 }
 
 /// The children that are there.
-fn or_none<'a>(children: Option<Children<'a>>) -> Children<'a>
+pub(crate) fn or_none<'a>(children: Option<Children<'a>>) -> Children<'a>
     ensures { every batch_item (view_trees result)
         ≡ or_nothing (option_map (λ c. every batch_item (view_trees c)) children.entry) }
 {
