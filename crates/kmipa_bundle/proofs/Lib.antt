@@ -1,0 +1,10 @@
+pub mod ChainLemmas
+pub mod FitLemmas
+pub mod ReadableLemmas
+pub mod OrderLemmas
+pub mod CountLemmas
+pub mod PlaceLemmas
+pub mod RunLemmas
+pub mod EndLemmas
+pub mod TakenLemmas
+pub mod WholeLemmas

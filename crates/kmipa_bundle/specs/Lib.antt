@@ -1,0 +1,9 @@
+pub mod Deeds
+pub mod Shapes
+pub mod Fits
+pub mod Bundles
+pub mod Counts
+pub mod Refusals
+pub mod Running
+pub mod Composing
+pub mod Whole
