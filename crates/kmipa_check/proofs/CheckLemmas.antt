@@ -14,7 +14,7 @@ use Rattle.kmipa_check.specs.Orders.{IsOrder, AreFormed, OrderFault}
 use Rattle.kmipa_check.specs.Replays.{TellsRun, AllTakable}
 use Rattle.kmipa_check.specs.Verdicts.{Checks}
 use Rattle.kmipa_check.specs.CallReading.{CallsFault}
-use Rattle.kmipa_check.specs.declared.call.Call.{Call}
+use Rattle.kmipa_record.specs.declared.call.Call.{Call}
 use Rattle.kmipa_check.specs.declared.fault.CheckFault.{CheckFault}
 use Rattle.kmipa_check.specs.declared.fault.CheckFault.TheVariants.{Outside, Witness, Memory}
 use Rattle.kmipa_check.specs.declared.verdict.Verdict.{Verdict}

@@ -204,6 +204,14 @@ module _ (declared : DeclarationOf) (may : AreDeclared declared) (n : ℕ) (e : 
       ∙ ap (λ (x : EntryOf). take n declared.entries ++ x ∷ []) (get_or_from_slice_get declared.entries n e e next) in
       subst Q (sym left) (subst P (sym more) (opened_more (take n declared.entries) e s.now o next_declarable (next_unheld s.now o)))
 
+-- what is set aside stays
+pub declared_aside : (s : LedgerState) (e : EntryOf) (t : LedgerState) → Declares s e (Ok tt) t → t.now.aside ≡ s.now.aside
+declared_aside s e t left = ap (λ (x : LedgerState). x.now.aside) left ∙ by e.attributes.destroy
+  where
+    by : (destroy : Option ℤ) → (with_declared_at destroy s.now e).aside ≡ s.now.aside
+    by None = refl
+    by (Some date) = refl
+
 -- with all entries it is what is known before the first turn
 pub opened_known : (declared : DeclarationOf) (n : ℕ) (m : Meaning) → length declared.entries ≤ n → Opened (take n declared.entries) m → AreKnown declared [] m
 opened_known declared n m past p =

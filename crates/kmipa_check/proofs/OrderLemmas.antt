@@ -5,7 +5,7 @@ use Rattle.std.proofs.lemmas.Bool.Decides.{nat_tests}
 use Rattle.std.proofs.lemmas.Option.{slice_get_within}
 use Rattle.kmipa_record.specs.declared.turn.Turn.{Turn}
 use Rattle.kmipa_record.specs.Witnesses.{TurnOf, turn_of}
-use Rattle.kmipa_check.specs.declared.call.Call.{Call}
+use Rattle.kmipa_record.specs.declared.call.Call.{Call}
 use Rattle.kmipa_check.specs.declared.numbers.FirstPlaces.{FirstPlaces}
 use Rattle.kmipa_check.specs.declared.fault.StepFault.{StepFault}
 use Rattle.kmipa_check.specs.declared.fault.StepFault.TheVariants.{Unfit, Memory}

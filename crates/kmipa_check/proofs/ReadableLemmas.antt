@@ -93,7 +93,7 @@ own_readable ask answer t h never own =
     (shown ask.asked answer.status t answer.payload h (lacks_of ask.asked ask answer refl never own))
 
 -- an answer to an item of the request, by the field of its operation
-answer_readable : (field : Field ℕ) (ask : AskOf) (answer : AnswerOf) (t : Option Tree) (operation : Option ℕ) → answer.operation ≡ operation → Optional field operation
+pub answer_readable : (field : Field ℕ) (ask : AskOf) (answer : AnswerOf) (t : Option Tree) (operation : Option ℕ) → answer.operation ≡ operation → Optional field operation
     → SaysShown (own (Some ask) field) answer.status t answer.payload → (Wanted ask answer → ⊥) → is_readable ask answer ≡ true
 answer_readable Absent ask answer t None is o h never = own_readable ask answer t h never (inl is)
 answer_readable Absent ask answer t (Some n) is o h never = absurd cc
@@ -133,7 +133,7 @@ pairs_readable [] h = tt
 pairs_readable (pair ∷ pairs) h = (h 0 pair.0 pair.1 refl, pairs_readable pairs (λ place ask answer there. h (suc place) ask answer there))
 
 -- an answer that has the payload that its fill says
-filled_readable : (ask : AskOf) (answer : AnswerOf) (fill : FillOf) (p : PayloadOf) → Wanted ask answer → SaysFill fill ask p → is_readable ask (with_payload answer p) ≡ true
+pub filled_readable : (ask : AskOf) (answer : AnswerOf) (fill : FillOf) (p : PayloadOf) → Wanted ask answer → SaysFill fill ask p → is_readable ask (with_payload answer p) ≡ true
 filled_readable ask answer fill p wanted says =
     or_true (is_other (λ (x y : ℕ). x == y) answer.operation (operation_number (operation_asked ask.asked))) (can_judge answer.status ask.asked (Some p))
     (ap (λ (s : Status). can_judge s ask.asked (Some p)) wanted.undone ∙ (payload_said ask.asked fill.payload p says.said).0)
@@ -214,7 +214,7 @@ born_alike ask answer a =
     ap (λ (o : Operation). is_other (λ (x y : ℕ). x == y) answer.operation (operation_number o) || judge) (born_operation ask.asked a)
     ∙ ap (λ (b : Bool). is_other (λ (x y : ℕ). x == y) answer.operation (operation_number (operation_asked ask.asked)) || b) (born_judged answer.status ask.asked a answer.payload)
 
-readable_born : (g : GrantsOf) (births : List BirthOf) (place : ℕ) (ask full : AskOf) (answer : AnswerOf) → IsBornAt g births place ask full → is_readable ask answer ≡ true → is_readable full answer ≡ true
+pub readable_born : (g : GrantsOf) (births : List BirthOf) (place : ℕ) (ask full : AskOf) (answer : AnswerOf) → IsBornAt g births place ask full → is_readable ask answer ≡ true → is_readable full answer ≡ true
 readable_born g births place ask full answer (as_asked none is) h = ap (λ (x : AskOf). is_readable x answer) is ∙ h
 readable_born g births place ask full answer (completed birth one its a of is) h = ap (λ (x : AskOf). is_readable x answer) is ∙ born_alike ask answer a ∙ h
 

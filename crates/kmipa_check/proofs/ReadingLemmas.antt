@@ -20,7 +20,7 @@ use Rattle.kmipa_msgs.specs.declared.fault.ReadFault.{ReadFault}
 use Rattle.kmipa_msgs.specs.declared.fault.Outside.{Outside}
 use Rattle.kmipa_msgs.specs.Requests.{RequestFault}
 use Rattle.kmipa_msgs.specs.Responses.{ResponseFault}
-use Rattle.kmipa_check.specs.declared.call.Call.{Call}
+use Rattle.kmipa_record.specs.declared.call.Call.{Call}
 use Rattle.kmipa_check.specs.declared.numbers.FirstPlaces.{FirstPlaces}
 use Rattle.kmipa_check.specs.declared.fault.Side.TheVariants.{Client, Server}
 use Rattle.kmipa_check.specs.Numbers.{place_in, end_number, StandsFirst, Indexes}

@@ -12,7 +12,7 @@ use Rattle.kmipa_msgs.specs.declared.response.Response.{Response}
 use Rattle.kmipa_msgs.specs.Messages.{RequestOf, request_of, response_of}
 use Rattle.kmipa_msgs.specs.Requests.{RequestFault}
 use Rattle.kmipa_msgs.specs.Responses.{ResponseFault}
-use Rattle.kmipa_check.specs.declared.call.Call.{Call}
+use Rattle.kmipa_record.specs.declared.call.Call.{Call}
 use Rattle.kmipa_check.specs.declared.fault.Side.{Side}
 use Rattle.kmipa_check.specs.declared.fault.Side.TheVariants.{Client, Server}
 use Rattle.kmipa_check.specs.declared.fault.StepFault.{StepFault}

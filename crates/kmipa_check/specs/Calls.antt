@@ -9,7 +9,7 @@ use Rattle.kmipa_msgs.specs.Messages.{RequestOf, ResponseOf, request_of, respons
 use Rattle.kmipa_msgs.specs.Outside.{Inside, OutsideAt}
 use Rattle.kmipa_msgs.specs.Requests.{SaysRequest, RequestFault}
 use Rattle.kmipa_msgs.specs.Responses.{SaysResponse, ResponseFault}
-use Rattle.kmipa_check.specs.declared.call.Call.{Call}
+use Rattle.kmipa_record.specs.declared.call.Call.{Call}
 use Rattle.kmipa_check.specs.declared.fault.Side.{Side}
 use Rattle.kmipa_check.specs.declared.fault.Side.TheVariants.{Client, Server}
 

@@ -1,9 +1,12 @@
--- Which inventories a declaration describes.
-use Rattle.std.specs.Prelude.{◌≡◌, ℕ, List, Some}
+-- Which inventories a declaration describes, and what it sets aside.
+use Rattle.std.specs.Prelude.{◌≡◌, ℕ, Bool, true, false, List, [], ◌∷◌, Some}
 use Rattle.std.specs.List.{AllZip}
 use Rattle.kmipa_attrs.specs.Sets.{Attributes}
 use Rattle.kmipa_object.specs.Life.{Dates}
 use Rattle.kmipa_object.specs.Inventory.{Card, Thing, given_of, IsInventory}
+use Rattle.kmipa_store.specs.Aside.{AsideOf, Entry, said_aside}
+use Rattle.kmipa_msgs.specs.declared.rules.Unjudged.{Unjudged}
+use Rattle.kmipa_msgs.specs.declared.rules.Unjudged.TheVariants.{Refused, SetAside, Unknown}
 use Rattle.kmipa_record.specs.Entries.{EntryOf}
 use Rattle.kmipa_record.specs.Declarations.{DeclarationOf}
 
@@ -30,3 +33,18 @@ pub record IsDescribed (e : EntryOf) (thing : Thing) : Type 0 where
 pub record Describes (declared : DeclarationOf) (things : List Thing) : Type 0 where
   pub inventory : IsInventory things
   pub objects : AllZip IsDescribed declared.entries things
+
+-- these identifiers are set aside, one after the other
+abbrev pub each_aside : List (List ℕ) → List Entry → List Entry
+each_aside [] es = es
+each_aside (id ∷ ids) es = each_aside ids (said_aside es id)
+
+-- nothing is known of identifiers that aren't declared
+abbrev pub is_rest_unknown : Unjudged → Bool
+is_rest_unknown Unknown = true
+is_rest_unknown Refused = false
+is_rest_unknown SetAside = false
+
+-- what is set aside at the start
+abbrev pub aside_declared : DeclarationOf → AsideOf
+aside_declared declared = record { ids = each_aside declared.asides []; rest = is_rest_unknown declared.settings.unjudged; over = false }

@@ -8,7 +8,6 @@ ghost use Rattle.kmipa_record.specs.Witnesses.{witness_of};
 ghost use Rattle.kmipa_check.specs.Calls.{AreCalls, IsRecorded, call_of};
 ghost use Rattle.kmipa_check.specs.Verdicts.{Checks};
 
-use crate::call::Call;
 use crate::fault::CheckFault;
 use crate::grants::Grants;
 use crate::opening::{open_ledger, rules_of_declaration};
@@ -16,7 +15,7 @@ use crate::order::steps_of;
 use crate::reading::read_calls;
 use crate::replay::replay;
 use crate::verdict::Verdict;
-use kmipa_record::{Declaration, Transcript, Witness};
+use kmipa_record::{Call, Declaration, Transcript, Witness};
 use std::alloc::Global;
 
 /// Whether some inventory that the declaration describes has a run of all calls in the witness's order that gives every recorded

@@ -3,7 +3,6 @@
 
 mod auditing;
 mod births;
-mod call;
 mod checking;
 mod completing;
 mod copying;
@@ -30,11 +29,11 @@ mod verdict;
 
 pub use auditing::{AuditFault, AuditRecords, Audited, audit, audit_with, read_records};
 pub use births::born_in;
-pub use call::Call;
 pub use checking::{check, check_calls};
 pub use completing::read_birth;
+pub use copying::copy_asked;
 pub use fault::{CheckFault, Side, StepFault, WitnessFault, WitnessKind};
-pub use filling::needs_fill;
+pub use filling::{are_wanted, filled, needs_fill, none_missing};
 pub use grants::Grants;
 pub use laws::{
     accepted_audit_is_yes, accepted_behind_is_accepted, accepted_is_explained, accepted_is_yes,
@@ -44,9 +43,11 @@ pub use laws::{
     taken_is_known,
 };
 pub use leaving::declaration_left;
+pub use moment::moment_given;
 pub use numbers::{FirstPlaces, Numbered};
 pub use opening::{open_ledger, rules_of_declaration};
 pub use order::steps_of;
+pub use places::places_of;
 pub use plain_laws::{plain_call_has_one_step, plain_call_is_taken_bare};
 pub use reading::{read_calls, request_in, response_in};
 pub use segment::{Checked, CheckedOn, Left, check_segment, check_segment_on};

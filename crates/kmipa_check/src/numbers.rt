@@ -4,8 +4,7 @@ ghost use Rattle.std.specs.Prelude.{◌≡◌, ℤ, Option, None, Some, OnOk, If
 ghost use Rattle.kmipa_record.specs.Marks.{mark_of};
 ghost use Rattle.kmipa_check.specs.Numbers.{Indexes, IndexesBelow, Noted, NotedIfAny, end_number, is_noted, place_in};
 
-use crate::call::Call;
-use kmipa_record::{Birth, Fill, Mark, NumberMap, Turn};
+use kmipa_record::{Birth, Call, Fill, Mark, NumberMap, Turn};
 use std::alloc::{AllocError, Global};
 
 /// What may have a number.

@@ -4,6 +4,7 @@ ghost use Rattle.std.specs.Prelude.{◌≡◌, [], map, None, IfErr, IfOk};
 ghost use Rattle.kmipa_attrs.specs.Sets.{attributes_of};
 ghost use Rattle.kmipa_object.specs.Inventory.{place_of};
 ghost use Rattle.kmipa_object.specs.Life.{dates_of};
+ghost use Rattle.kmipa_store.specs.Aside.{nothing_aside};
 ghost use Rattle.kmipa_store.specs.Choices.{IsSound};
 ghost use Rattle.kmipa_store.specs.Ledger.{cards_of};
 ghost use Rattle.kmipa_store.specs.States.{state_of_journal};
@@ -24,12 +25,13 @@ use kmipa_store::{Journal, Ledger, StoreFault};
 use std::alloc::{AllocError, Global};
 
 /// The ledger of a server of this declaration, before any call: it stands for exactly the inventories that the declaration describes.
-/// A live object has a secret of its own, which knows the declared bytes.
+/// A live object has a secret of its own, which knows the declared bytes. Nothing is set aside.
 pub fn open_ledger(alloc: Global, declaration: &Declaration) -> Result<Journal, CheckFault>
     requires { AreDeclared (declaration_of declaration.now) }
     ensures opened { IfOk result
         (λ ledger. AreKnown (declaration_of declaration.now) [] (state_of_journal ledger).now) }
     ensures sound { IfOk result (λ ledger. IsSound (state_of_journal ledger).now) }
+    ensures aside { IfOk result (λ ledger. (state_of_journal ledger).now.aside ≡ nothing_aside) }
     ensures memory { IfErr result (λ fault. fault ≡ CheckFault.Memory) }
 {
     let mut ledger = Journal::new(alloc);

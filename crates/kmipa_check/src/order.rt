@@ -9,13 +9,12 @@ ghost use Rattle.kmipa_check.specs.Ordering.{TurnRefused, fault_at, first_missin
 ghost use Rattle.kmipa_check.specs.Orders.{IsFormed, IsOrder, AreFormed, OrderFault};
 ghost use Rattle.kmipa_check.specs.Steps.{step_of};
 
-use crate::call::Call;
 use crate::fault::{CheckFault, StepFault, WitnessFault, WitnessKind};
 use crate::grants::Grants;
 use crate::numbers::FirstPlaces;
 use crate::step::Step;
 use crate::turn::step_of_turn;
-use kmipa_record::Turn;
+use kmipa_record::{Call, Turn};
 use std::alloc::Global;
 
 /// Where numbers first stand.

@@ -45,7 +45,7 @@ fn wants_order(request: &Request, response: &Response) -> bool
 }
 
 /// The places of these numbers; `None` where one of them is below 0.
-fn places_of(alloc: Global, numbers: &[i32]) -> Result<Option<Vec<usize>>, AllocError>
+pub fn places_of(alloc: Global, numbers: &[i32]) -> Result<Option<Vec<usize>>, AllocError>
     ensures { IfOk result
         (λ reported. MatchOption reported ((places : List ℕ) → numbers.now ≡ place_numbers places → ⊥)
         (λ places. numbers.now ≡ place_numbers places.items)) }

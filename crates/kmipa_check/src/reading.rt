@@ -8,11 +8,10 @@ ghost use Rattle.kmipa_check.specs.Calls.{AreCalls, AreTimed, IsRecorded, call_o
 ghost use Rattle.kmipa_check.specs.Numbers.{Indexes, end_number};
 ghost use Rattle.kmipa_check.specs.CallReading.{AnswerRead, CallsFault, EndRead, ItemRead, MarkRead, RequestRead, ResponseRead, no_message};
 
-use crate::call::Call;
 use crate::fault::{CheckFault, Side, StepFault, WitnessKind};
 use crate::numbers::FirstPlaces;
 use kmipa_msgs::{Outside, OutsideKind, ReadFault, Request, Response, read_request, read_response};
-use kmipa_record::{Begin, End, Mark, Transcript};
+use kmipa_record::{Begin, Call, End, Mark, Transcript};
 use kmipa_ttlv::{View, decode_view};
 use std::alloc::Global;
 

@@ -12,7 +12,6 @@ ghost use Rattle.kmipa_check.specs.Orders.{Refuses};
 ghost use Rattle.kmipa_check.specs.Steps.{IsAnswered, IsStep, given_of, step_of};
 
 use crate::births::born_in;
-use crate::call::Call;
 use crate::fault::{StepFault, WitnessKind};
 use crate::filling::{are_wanted, filled, none_missing};
 use crate::grants::Grants;
@@ -22,7 +21,7 @@ use crate::places::places_given;
 use crate::reading::answer_in;
 use crate::step::{Given, Step};
 use kmipa_msgs::Request;
-use kmipa_record::{Fill, Turn};
+use kmipa_record::{Call, Fill, Turn};
 use std::alloc::Global;
 
 /// The step that a turn makes with the call that it names, where this much is granted, or the first fault of what it gives to the call.

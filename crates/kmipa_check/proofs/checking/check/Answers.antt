@@ -1,7 +1,7 @@
 use Rattle.std.proofs.Common.{All, List, map, subst, sym}
 use Rattle.kmipa_record.specs.Transcripts.{transcript_of}
 use Rattle.kmipa_check.specs.Calls.{call_of, AreCalls, IsRecorded}
-use Rattle.kmipa_check.specs.declared.call.Call.{Call}
+use Rattle.kmipa_record.specs.declared.call.Call.{Call}
 use Rattle.kmipa_check.proofs.checking.check.Goals as goal
 
 pub check_calls-requires-clause-each : goal.check_calls-requires-clause-each

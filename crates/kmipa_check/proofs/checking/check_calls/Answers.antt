@@ -10,7 +10,7 @@ use Rattle.kmipa_check.specs.Orders.{IsOrder, AreFormed, OrderFault}
 use Rattle.kmipa_check.specs.Grants.{GrantsOf, grants_of, grants_declared}
 use Rattle.kmipa_check.specs.Steps.{step_of}
 use Rattle.kmipa_check.specs.Replays.{AllTakable, TellsRun}
-use Rattle.kmipa_check.specs.declared.call.Call.{Call}
+use Rattle.kmipa_record.specs.declared.call.Call.{Call}
 use Rattle.kmipa_check.specs.declared.step.Step.{Step}
 use Rattle.kmipa_check.proofs.CheckLemmas.{calls_numbered, calls_once, steps_takable, order_faults, run_reported}
 use Rattle.kmipa_check.proofs.ReplayLemmas.{replayed_none}

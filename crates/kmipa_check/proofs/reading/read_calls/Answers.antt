@@ -2,7 +2,7 @@ use Rattle.std.proofs.Common.{◌≡◌, ◌∙◌, Err, Vec, Global, ap, map, a
 use Rattle.std.proofs.lemmas.List.{length-map}
 use Rattle.kmipa_record.specs.Marks.{mark_of}
 use Rattle.kmipa_record.specs.Transcripts.{transcript_of}
-use Rattle.kmipa_check.specs.declared.call.Call.{Call}
+use Rattle.kmipa_record.specs.declared.call.Call.{Call}
 use Rattle.kmipa_check.specs.Calls.{AreCalls, call_of}
 use Rattle.kmipa_check.proofs.ReadingLemmas.{read_all, read_err, read_more, read_past}
 use Rattle.kmipa_check.proofs.TimedLemmas.{calls_are_timed_lem}
