@@ -1,0 +1,15 @@
+pub mod LateLemmas
+pub mod OrderLemmas
+pub mod MissingLemmas
+pub mod BackLemmas
+pub mod LeadLemmas
+pub mod ReplayLemmas
+pub mod OpeningLemmas
+pub mod StepLemmas
+pub mod SumLemmas
+pub mod CheckLemmas
+pub mod RefusedLemmas
+pub mod OneStepLemmas
+pub mod WitnessLemmas
+pub mod SameCallsLemmas
+pub mod AcceptedLemmas

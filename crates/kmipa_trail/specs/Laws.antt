@@ -1,0 +1,36 @@
+-- What the definitions say together.
+use Rattle.std.specs.Prelude.{◌≡◌, ◌⊎◌, ℤ, List, length, Option, Result, Ok, Err}
+use Rattle.kmipa_record.specs.Declarations.{DeclarationOf}
+use Rattle.kmipa_record.specs.Marks.{MarkOf, AreRecorded}
+use Rattle.kmipa_record.specs.Witnesses.{TurnOf}
+use Rattle.kmipa_aside.specs.Worlds.{WorldOf}
+use Rattle.kmipa_check.specs.Runs.{rules_declared}
+use Rattle.kmipa_check.specs.declared.verdict.Refused.{Refused}
+use Rattle.kmipa_turns.specs.Steps.{StepOf}
+use Rattle.kmipa_trail.specs.Leading.{Leads}
+use Rattle.kmipa_trail.specs.Opening.{DescribesWorld}
+use Rattle.kmipa_trail.specs.Placing.{ArePlaced}
+use Rattle.kmipa_trail.specs.Tallies.{TallyOf}
+use Rattle.kmipa_trail.specs.Verdicts.{Checks, IsAccepted, IsRefused}
+use Rattle.kmipa_trail.specs.declared.fault.Fault.{Fault}
+use Rattle.kmipa_trail.specs.declared.fault.Fault.TheVariants.{Memory}
+use Rattle.kmipa_trail.specs.declared.verdict.Verdict.{Verdict}
+use Rattle.kmipa_trail.specs.declared.verdict.Verdict.TheVariants.{Yes, No}
+
+-- a no is right: where an order is refused it isn't placed, or no described world has a run by it
+abbrev pub RefusedIsNever : Type 0
+RefusedIsNever =
+    (declared : DeclarationOf) (order : List StepOf) (r : Refused) (stamp : Option ℤ) (start last : WorldOf) → IsRefused declared order r stamp
+    → ArePlaced order (length order) → DescribesWorld declared start → Leads (rules_declared declared) start order last → ⊥
+
+-- the answer is yes, whatever it counts
+abbrev pub IsYes : Result Verdict Fault → Type 0
+IsYes (Ok (Yes tally)) = Unit {0}
+IsYes (Ok (No r stamp)) = ⊥
+IsYes (Err f) = ⊥
+
+-- of an accepted witness a check answers yes, unless memory runs out; so it answers yes exactly there
+abbrev pub AcceptedIsYes : Type 0
+AcceptedIsYes =
+    (marks : List MarkOf) (declared : DeclarationOf) (turns : List TurnOf) (tally : TallyOf) (result : Result Verdict Fault) → AreRecorded marks
+    → IsAccepted marks declared turns tally → Checks marks declared turns result → IsYes result ⊎ (result ≡ Err Memory)

@@ -1,0 +1,15 @@
+pub mod Opening
+pub mod Leading
+pub mod Placing
+pub mod Orders
+pub mod Tallies
+pub mod Told
+pub mod Verdicts
+pub mod Laws
+pub mod Summing
+pub mod Back
+pub mod Setting
+pub mod Late
+pub mod Ordering
+pub mod Replays
+pub mod Refusing

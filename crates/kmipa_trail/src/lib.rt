@@ -1,0 +1,23 @@
+//! The check of a witness where some items aren't judged, some objects are set aside, and some calls can't be read.
+#![tactic(auto)]
+
+mod back;
+mod checking;
+mod fault;
+mod late;
+mod laws;
+mod opening;
+mod order;
+mod replaying;
+mod step;
+mod tally;
+mod verdict;
+
+pub use checking::{check, check_opened};
+pub use fault::Fault;
+pub use laws::{accepted_is_yes, refused_is_never};
+pub use opening::{open_world, set_rest_aside};
+pub use order::steps_of;
+pub use replaying::replay;
+pub use tally::Tally;
+pub use verdict::Verdict;
