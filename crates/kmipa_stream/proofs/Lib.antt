@@ -9,4 +9,5 @@ pub mod ReplayingLemmas
 pub mod StandingLemmas
 pub mod ConcludingLemmas
 pub mod StreamLemmas
+pub mod EachAsideLemmas
 pub mod OpeningLemmas

@@ -2,9 +2,11 @@
 
 ghost use Rattle.std.specs.Prelude.{◌≡◌, ℕ, Bool, List, [], map, true, false, IsTrue, IfOk, IfErr, OnOk};
 ghost use Rattle.kmipa_ttlv.specs.Input.{came_of, is_ended, is_failed, IsFileOf};
-ghost use Rattle.kmipa_record.specs.Declarations.{DeclarationFault, DeclarationOf, IsDeclarationUpTo};
+ghost use Rattle.kmipa_record.specs.Declarations.{DeclarationOf};
 ghost use Rattle.kmipa_record.specs.Files.{Tells};
 ghost use Rattle.kmipa_record.specs.Marks.{MarkOf};
+ghost use Rattle.kmipa_record.specs.Taking.{HasTaken};
+ghost use Rattle.kmipa_record.specs.declared.reach.Reach.TheVariants as reach;
 ghost use Rattle.kmipa_record.specs.TranscriptReading.{HaveCome, HaveEnded, IsKnownBy, input_of, reference_of};
 ghost use Rattle.kmipa_record.specs.Transcripts.{IsTranscript, IsTranscriptUpTo, TranscriptFault};
 ghost use Rattle.kmipa_record.specs.Witnesses.{IsWitnessUpTo, WitnessFault, turn_of, witness_of};
@@ -21,63 +23,59 @@ use crate::judged::Judged;
 use crate::opening::Opening;
 use crate::stamped::Stamped;
 use kmipa_check::{AuditFault, CheckFault};
-use kmipa_record::{
-    Head, Reach, RecordFault, RecordedMarks, Settings, Witness, read_declaration_into, read_witness,
-};
+use kmipa_record::{Head, RecordFault, RecordedMarks, Settings, Witness, read_witness};
 use kmipa_ttlv::Input;
 use std::alloc::Global;
 use std::io::Read;
 use std::mem::forget;
 
-/// The verdict on three inputs of which nothing was read, as `audit` gives it. A turn is taken as soon as its call has ended in the
-/// transcript and it stands next in the witness, and the messages of the call are let go then: what is kept of the transcript is what
-/// the witness puts later.
+/// The verdict on a transcript and a witness of which nothing was read, as `audit` gives it, behind a declaration that was read to its end, and by which
+/// calls are judged where nothing is set aside: these settings and this opening are what it gave. A turn is taken as soon as its call has ended in the
+/// transcript and it stands next in the witness, and the messages of the call are let go then: what is kept of the transcript is what the witness puts
+/// later.
 ///
-/// The declaration and the witness are read first, the transcript to its end in any case: the first fault is still told in the order
-/// transcript, declaration, witness. The declaration is read straight into the ledger, and where it is faulty the witness isn't read.
+/// The witness is read first, the transcript to its end in any case: the first fault is still told in the order transcript, witness.
 ///
 /// # Memory
 /// Behind a verdict the ledger, what is noted of the calls, and the witness are not given back, since a process that asks for this ends
 /// behind it. Whoever goes on takes `audit` of kmipa_check, which gives all back.
-pub fn audit_stream<R: Read>(
+pub fn audit_opened<R: Read>(
     alloc: Global,
     transcript: &mut Input<R>,
-    declaration: &mut Input<R>,
+    declaration: &Input<R>,
+    settings: Settings,
+    opening: Opening,
     witness: &mut Input<R>,
 ) -> Result<Judged, AuditFault>
     requires transcript { came_of transcript.old ≡ [] }
-    requires declaration { came_of declaration.old ≡ [] }
     requires witness { came_of witness.old ≡ [] }
+    requires taken { HasTaken reach.Judged Opens settings (came_of declaration.now) opening }
+    requires ended { IsTrue (is_ended declaration.now) }
     // Whatever follows what came, and nothing where the end was seen: what `audit` answers.
-    ensures audits { (t d w : List ℕ) → IsFileOf t transcript.new → IsFileOf d declaration.new → IsFileOf w witness.new
-        → AuditsAs t d w (is_failed transcript.new) (is_failed declaration.new) (is_failed witness.new)
+    ensures audits { (t d w : List ℕ) → IsFileOf t transcript.new → IsFileOf d declaration.now → IsFileOf w witness.new
+        → AuditsAs t d w (is_failed transcript.new) (is_failed declaration.now) (is_failed witness.new)
         (verdict_alone result) }
     // So a yes is reported only of accepted bytes.
     ensures accepted { IfOk result
         (λ judged. judged.verdict ≡ Yes
-        → AreAccepted (came_of transcript.new) (came_of declaration.new) (came_of witness.new)) }
+        → AreAccepted (came_of transcript.new) (came_of declaration.now) (came_of witness.new)) }
     // A no comes with the Time Stamp of its call's response.
     ensures dated { IfOk result
         (λ judged. TellsDate (came_of transcript.new) (came_of witness.new) judged.verdict judged.stamp) }
     // A yes comes with the number of items that were judged.
     ensures counted { IfOk result
         (λ judged. judged.verdict ≡ Yes
-        → HaveItems (came_of transcript.new) (came_of declaration.new) (came_of witness.new) judged.items) }
+        → HaveItems (came_of transcript.new) (came_of declaration.now) (came_of witness.new) judged.items) }
     // And with what became of them, where the declaration sets aside.
     ensures tallied { IfOk result
         (λ judged. judged.verdict ≡ Yes
-        → HaveTally (came_of transcript.new) (came_of declaration.new) (came_of witness.new) judged.tally) }
+        → HaveTally (came_of transcript.new) (came_of declaration.now) (came_of witness.new) judged.tally) }
     // Each verdict comes with the head up to which all seals are right of what came, or that bears none.
     ensures known { IfOk result
         (λ judged. (marks : List MarkOf) × IsKnownBy (came_of transcript.new) marks judged.head) }
     ensures ended { OnOk result
-        (IsTrue (is_ended transcript.new) × IsTrue (is_ended declaration.new) × IsTrue (is_ended witness.new)) }
+        (IsTrue (is_ended transcript.new) × IsTrue (is_ended witness.new)) }
 {
-    let mut opening = Opening::new(alloc);
-    let settings = match read_declaration_into(alloc, declaration, Reach::Judged, &mut opening) {
-        Ok(settings) => settings,
-        Err(fault) => return Err(declaration_fault(alloc, transcript, fault)),
-    };
     let witness = match read_witness(alloc, witness) {
         Ok(witness) => witness,
         Err(fault) => return Err(witness_fault(alloc, transcript, fault)),
@@ -86,23 +84,6 @@ pub fn audit_stream<R: Read>(
         Ok(Ok(judged)) => Ok(judged),
         Ok(Err(fault)) => Err(AuditFault::Check(fault)),
         Err(fault) => Err(AuditFault::Transcript(fault)),
-    }
-}
-
-/// The first fault of the transcript, or, where it has none, this one of the declaration.
-fn declaration_fault<R: Read>(
-    alloc: Global,
-    transcript: &mut Input<R>,
-    fault: RecordFault,
-) -> AuditFault
-    requires { came_of transcript.old ≡ [] }
-    ensures { (t d w : List ℕ) (failed_d failed_w : Bool) → IsFileOf t transcript.new
-        → Tells DeclarationFault IsDeclarationUpTo d failed_d fault
-        → AuditFails t d w (is_failed transcript.new) failed_d failed_w result }
-{
-    match pass(alloc, transcript) {
-        Ok(()) => AuditFault::Declaration(fault),
-        Err(first) => AuditFault::Transcript(first),
     }
 }
 
@@ -124,7 +105,7 @@ fn witness_fault<R: Read>(
 }
 
 /// Reads a transcript to its end, and keeps nothing of it.
-fn pass<R: Read>(alloc: Global, transcript: &mut Input<R>) -> Result<(), RecordFault>
+pub fn pass<R: Read>(alloc: Global, transcript: &mut Input<R>) -> Result<(), RecordFault>
     requires { came_of transcript.old ≡ [] }
     ensures ended { OnOk result (IsPassed transcript.new) }
     ensures fault { (file : List ℕ) → IsFileOf file transcript.new

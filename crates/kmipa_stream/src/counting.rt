@@ -17,9 +17,9 @@ ghost use Rattle.kmipa_stream.specs.Replaying.{counts_under, tally_under};
 
 use crate::counts::Counts;
 use crate::tally::Tally;
-use kmipa_check::{Call, Grants, Step, read_calls, steps_of};
+use kmipa_check::{Grants, Step, read_calls, steps_of};
 use kmipa_msgs::{Answer, Ask, Operation, Unjudged};
-use kmipa_record::{Declaration, Transcript, Turn};
+use kmipa_record::{Call, Declaration, Transcript, Turn};
 use std::alloc::{AllocError, Global};
 
 /// What becomes of the items of the order that these turns make of these calls, where the declaration sets aside; `None` where what isn't

@@ -17,7 +17,8 @@ mod stamped;
 mod taking;
 mod tally;
 
-pub use auditing::audit_stream;
+pub use auditing::{audit_opened, pass};
 pub use counting::{tally_of_records, tally_of_turns};
 pub use judged::Judged;
+pub use opening::{Opening, rules_with};
 pub use tally::Tally;

@@ -5,6 +5,8 @@ ghost use Rattle.kmipa_attrs.specs.Sets.{attributes_of};
 ghost use Rattle.kmipa_object.specs.Inventory.{place_of};
 ghost use Rattle.kmipa_object.specs.Life.{dates_of};
 ghost use Rattle.kmipa_store.specs.Ledger.{cards_of};
+ghost use Rattle.kmipa_store.specs.States.{state_of_journal};
+ghost use Rattle.kmipa_stream.specs.Opening.{has_objects, is_used};
 ghost use Rattle.kmipa_msgs.specs.Messages.{row_of, rules_of};
 ghost use Rattle.kmipa_record.specs.Entries.{IsDeclarable, entry_of};
 ghost use Rattle.kmipa_check.specs.Described.{dates_in};
@@ -25,8 +27,8 @@ use std::alloc::{AllocError, Global};
 ///
 /// An entry is let go as its object is added; its identifier and its attributes become the object's.
 #[derive(Drop)]
-pub(crate) struct Opening {
-    /// It stands for exactly the inventories that the entries describe.
+pub struct Opening {
+    /// It stands for exactly the inventories that the entries describe. The identifiers of aside entries are set aside by their names.
     pub ledger: Journal,
     pub rows: Vec<Row>,
     pub allow_lines: Vec<AllowLine>,
@@ -36,7 +38,9 @@ pub(crate) struct Opening {
 
 impl Opening {
     ghost use Rattle.std.specs.Prelude.{MatchResult};
-    ghost use Rattle.kmipa_record.specs.Declarations.{DeclarationOf, MayFollow, nothing_declared, with_record};
+    ghost use Rattle.kmipa_record.specs.DeclarationRecords.{aside};
+    ghost use Rattle.kmipa_record.specs.Declarations.{DeclarationOf, HasNoObjects, MayFollow, nothing_declared, with_record};
+    ghost use Rattle.kmipa_check.specs.Deciding.{Decided};
     ghost use Rattle.kmipa_record.specs.Taking.{Refuses, record_of};
     ghost use Rattle.kmipa_record.specs.declared.settings.Settings.{Settings};
     ghost use Rattle.kmipa_stream.specs.Opening.{Opens};
@@ -53,6 +57,14 @@ impl Opening {
         }
     }
 
+    /// Whether no object was declared so far, and no identifier is set aside.
+    fn is_without_objects(&self) -> bool
+        ensures { (declared : DeclarationOf) → Opens self.now declared
+            → Decided result (HasNoObjects declared) }
+    {
+        !has_objects(&self.ledger)
+    }
+
     fn take_row(&mut self, row: Row) -> Result<(), RecordKind>
         ensures { (declared : DeclarationOf) → Opens self.old declared
             → MatchResult result
@@ -60,7 +72,7 @@ impl Opening {
             × Opens self.new (with_record declared (record_of (DeclarationRecord.Row row))))
             (Refuses declared (record_of (DeclarationRecord.Row row))) }
     {
-        if self.ledger.len() > 0 || !self.allow_lines.is_empty() {
+        if !self.is_without_objects() || !self.allow_lines.is_empty() {
             return Err(RecordKind::Entry);
         }
         if !self.own_attributes.is_empty() {
@@ -79,7 +91,7 @@ impl Opening {
             × Opens self.new (with_record declared (record_of (DeclarationRecord.Allow line))))
             (Refuses declared (record_of (DeclarationRecord.Allow line))) }
     {
-        if self.ledger.len() > 0 || !self.own_attributes.is_empty() {
+        if !self.is_without_objects() || !self.own_attributes.is_empty() {
             return Err(RecordKind::Entry);
         }
         if !is_new_cell(&self.allow_lines, &line) {
@@ -98,7 +110,7 @@ impl Opening {
             × Opens self.new (with_record declared (record_of (DeclarationRecord.Own attribute))))
             (Refuses declared (record_of (DeclarationRecord.Own attribute))) }
     {
-        if self.ledger.len() > 0 || !is_new_attribute(&self.own_attributes, attribute) {
+        if !self.is_without_objects() || !is_new_attribute(&self.own_attributes, attribute) {
             return Err(RecordKind::Entry);
         }
         match self.own_attributes.push(attribute) {
@@ -115,7 +127,7 @@ impl Opening {
             × Opens self.new (with_record declared (record_of (DeclarationRecord.Entry entry))))
             (Refuses declared (record_of (DeclarationRecord.Entry entry))) }
     {
-        if self.ledger.find(entry.id.as_str()).is_some() {
+        if is_used(&self.ledger, entry.id.as_str()) {
             return Err(RecordKind::Identifier);
         }
         match declare(&mut self.ledger, entry) {
@@ -123,6 +135,36 @@ impl Opening {
             Err(_) => Err(RecordKind::Memory),
         }
     }
+
+    fn take_aside(&mut self, id: &str) -> Result<(), RecordKind>
+        ensures { (declared : DeclarationOf) → Opens self.old declared
+            → MatchResult result
+            (λ _. MayFollow declared (aside id.now)
+            × Opens self.new (with_record declared (aside id.now)))
+            (Refuses declared (aside id.now)) }
+    {
+        if is_used(&self.ledger, id) {
+            return Err(RecordKind::Identifier);
+        }
+        match self.ledger.set_aside(id) {
+            Ok(()) => Ok(()),
+            Err(_) => Err(RecordKind::Memory),
+        }
+    }
+}
+
+/// Whether the ledger has an object, or something is set aside.
+fn has_objects(ledger: &Journal) -> bool
+    ensures { result ≡ has_objects (state_of_journal ledger.now).now }
+{
+    ledger.len() > 0 || ledger.is_any_aside()
+}
+
+/// Whether an object of the ledger has this identifier, or it is set aside.
+fn is_used(ledger: &Journal, id: &str) -> bool
+    ensures { result ≡ is_used (state_of_journal ledger.now).now id.now }
+{
+    ledger.find(id).is_some() || ledger.is_aside(id)
 }
 
 impl TakesRecords for Opening {
@@ -138,13 +180,13 @@ impl TakesRecords for Opening {
             DeclarationRecord::Allow(line) => self.take_line(line),
             DeclarationRecord::Entry(entry) => self.take_entry(entry),
             DeclarationRecord::Own(attribute) => self.take_attribute(attribute),
-            DeclarationRecord::Aside(_) => Err(RecordKind::Entry),
+            DeclarationRecord::Aside(id) => self.take_aside(id.as_str()),
         }
     }
 }
 
 /// The rules of a declaration with these settings, rows and lines; one without rows has the default ones.
-pub(crate) fn rules_with(
+pub fn rules_with(
     alloc: Global,
     settings: Settings,
     rows: Vec<Row>,

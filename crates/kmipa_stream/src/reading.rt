@@ -7,7 +7,8 @@ ghost use Rattle.kmipa_check.specs.Calls.{IsRecorded, call_of};
 ghost use Rattle.kmipa_stream.specs.Seeing.{HoldsBegin, HoldsEnd, IsSeen};
 
 use crate::seen::{Held, SeenCall};
-use kmipa_check::{Call, CheckFault, request_in, response_in};
+use kmipa_check::{CheckFault, request_in, response_in};
+use kmipa_record::Call;
 use std::alloc::Global;
 
 /// The call whose messages are held, or the first of its messages that is outside the profile. It is open where no response is held.

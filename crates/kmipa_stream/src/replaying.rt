@@ -11,11 +11,11 @@ use crate::naming::{is_named, is_passed};
 use crate::opening::{Opening, rules_with};
 use crate::taking::take_step;
 use kmipa_check::{
-    Call, CheckFault, FirstPlaces, Grants, Refused, Step, StepFault, WitnessFault, WitnessKind,
+    CheckFault, FirstPlaces, Grants, Refused, Step, StepFault, WitnessFault, WitnessKind,
     step_of_turn,
 };
 use kmipa_msgs::Rules;
-use kmipa_record::{OwnAttribute, Settings, Turn};
+use kmipa_record::{Call, OwnAttribute, Settings, Turn};
 use kmipa_store::Journal;
 use std::alloc::{AllocError, Global};
 

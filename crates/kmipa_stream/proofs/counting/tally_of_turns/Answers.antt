@@ -5,7 +5,7 @@ use Rattle.kmipa_check.specs.Calls.{call_of}
 use Rattle.kmipa_check.specs.Grants.{GrantsOf, grants_declared}
 use Rattle.kmipa_check.specs.Orders.{IsOrder}
 use Rattle.kmipa_check.specs.Steps.{step_of}
-use Rattle.kmipa_check.specs.declared.call.Call.{Call}
+use Rattle.kmipa_record.specs.declared.call.Call.{Call}
 use Rattle.kmipa_check.specs.declared.step.Step.{Step}
 use Rattle.kmipa_check.proofs.CheckLemmas.{calls_numbered, calls_once}
 use Rattle.kmipa_stream.specs.Counting.{AreTallied, tally_of}

@@ -1,20 +1,18 @@
-use Rattle.std.proofs.Common.{ℕ, List, inr, refl, sym, ap, ◌∙◌, string_bytes}
-use Rattle.kmipa_object.specs.Inventory.{place_of}
-use Rattle.kmipa_store.specs.Ledger.{cards_of}
+use Rattle.std.proofs.Common.{inr, refl, sym, ap, ◌∙◌, string_bytes, ℕ, List}
 use Rattle.kmipa_store.specs.States.{state_of_journal}
 use Rattle.kmipa_record.specs.Entries.{entry_of}
-use Rattle.kmipa_stream.proofs.OpeningLemmas.{used_before, not_found, opens_entry, is_used}
+use Rattle.kmipa_stream.specs.Opening.{is_used}
+use Rattle.kmipa_stream.proofs.OpeningLemmas.{opens_entry, used_not_new}
 use Rattle.kmipa_stream.proofs.opening.Opening.take_entry.Goals as goal
 
-pub returns-then-is_some : goal.returns-then-is_some
-returns-then-is_some c = λ declared o.
+pub returns-then-is_used : goal.returns-then-is_used
+returns-then-is_used c = λ declared o.
     let m = (state_of_journal c.args.self.now.ledger).now in
-    let at = c.find.ensures.place ∙ ap (λ (id : List ℕ). place_of id (cards_of m.objects)) c.as_str.ensures.value in
-    inr (refl, is_used declared (string_bytes c.args.entry.id) (used_before declared.entries m o.opened (string_bytes c.args.entry.id) c.find.result at (sym c.is_some.ensures ∙ c.if-is_some.true)))
+    let used = ap (λ (id : List ℕ). is_used m id) (sym c.as_str.ensures.value) ∙ sym c.is_used.ensures ∙ c.if-is_used.true in
+    inr (refl, used_not_new c.args.self.now declared o (string_bytes c.args.entry.id) used)
 
 pub returns-in-Ok : goal.returns-in-Ok
 returns-in-Ok c = λ declared o.
     let m = (state_of_journal c.args.self.now.ledger).now in
-    let at = c.find.ensures.place ∙ ap (λ (id : List ℕ). place_of id (cards_of m.objects)) c.as_str.ensures.value in
-    let free = not_found (string_bytes c.args.entry.id) c.find.result m at (sym c.is_some.ensures ∙ c.if-is_some.false) in
-    opens_entry c.args.self.now (record { ledger = c.declare.new.ledger; rows = c.args.self.now.rows; allow_lines = c.args.self.now.allow_lines; own_attributes = c.args.self.now.own_attributes }) declared (entry_of c.args.entry) o c.requires free refl refl refl c.in-Ok.ensures
+    let unused = ap (λ (id : List ℕ). is_used m id) (sym c.as_str.ensures.value) ∙ sym c.is_used.ensures ∙ c.if-is_used.false in
+    opens_entry c.args.self.now (record { ledger = c.declare.new.ledger; rows = c.args.self.now.rows; allow_lines = c.args.self.now.allow_lines; own_attributes = c.args.self.now.own_attributes }) declared (entry_of c.args.entry) o c.requires unused refl refl refl c.in-Ok.ensures
