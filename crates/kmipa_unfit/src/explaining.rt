@@ -13,8 +13,8 @@ ghost use Rattle.kmipa_unfit.specs.Finding.{IsBegun, IsFound, IsTurnFault, Leave
 
 use crate::explanation::{Unfit, WitnessExplanation};
 use crate::turns::{named_unfit, operations_of};
-use kmipa_check::{Call, CheckFault, Grants, WitnessFault, WitnessKind, read_calls};
-use kmipa_record::{Mark, Transcript, Turn, Witness};
+use kmipa_check::{CheckFault, Grants, WitnessFault, WitnessKind, read_calls};
+use kmipa_record::{Call, Mark, Transcript, Turn, Witness};
 use std::alloc::{AllocError, Global};
 
 /// What the fault of the witness means that a check of these files gave, where the declaration grants this. Only want of memory is an

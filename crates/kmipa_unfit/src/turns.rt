@@ -16,9 +16,9 @@ use crate::births::{formless_birth, unwanted_birth};
 use crate::explanation::{FarMoment, Unfit};
 use crate::fills::fill_unfit;
 use crate::orders::{disordered, ordered};
-use kmipa_check::{Call, CheckFault, Grants, WitnessKind};
+use kmipa_check::{CheckFault, Grants, WitnessKind};
 use kmipa_msgs::{Outside, OutsideKind, ReadFault, Request, Response, read_response};
-use kmipa_record::Turn;
+use kmipa_record::{Call, Turn};
 use kmipa_ttlv::{View, decode_view};
 use std::alloc::{AllocError, Global};
 

@@ -11,7 +11,7 @@ use Rattle.kmipa_check.specs.Grants.{GrantsOf, grants_of}
 use Rattle.kmipa_check.specs.Orders.{IsOrder, AreFormed, OrderFault}
 use Rattle.kmipa_check.specs.Replays.{AllTakable}
 use Rattle.kmipa_check.specs.Steps.{step_of}
-use Rattle.kmipa_check.specs.declared.call.Call.{Call}
+use Rattle.kmipa_record.specs.declared.call.Call.{Call}
 use Rattle.kmipa_check.specs.declared.step.Step.{Step}
 use Rattle.kmipa_check.proofs.CheckLemmas.{calls_numbered, calls_once, call_faults, order_faults, steps_takable}
 use Rattle.kmipa_explain.specs.Explainable.{IsExplainable}

@@ -12,7 +12,7 @@ use Rattle.kmipa_record.specs.declared.turn.Turn.{Turn}
 use Rattle.kmipa_check.specs.Calls.{AreCalls, call_of}
 use Rattle.kmipa_check.specs.Grants.{grants_of}
 use Rattle.kmipa_check.specs.Orders.{HasCall}
-use Rattle.kmipa_check.specs.declared.call.Call.{Call}
+use Rattle.kmipa_record.specs.declared.call.Call.{Call}
 use Rattle.kmipa_unfit.specs.Explanations.{ExplainsFault, ExplainsUnnamed, of_call}
 use Rattle.kmipa_unfit.specs.Finding.{IsTurnFault, LeavesOut}
 use Rattle.kmipa_unfit.specs.declared.explanation.WitnessExplanation.{WitnessExplanation}
