@@ -1,5 +1,6 @@
 //! What lives leave open: choices among edges.
 
+use crate::items::Touch;
 use crate::lives::{Course, Reader, bit_of};
 use crate::times::{Time, time_at};
 use std::alloc::{AllocError, Global};
@@ -29,6 +30,20 @@ pub struct Done {
     pub object: usize,
     /// The Time Stamp at which it does, where an answer shows it.
     pub date: Option<i64>,
+    /// The least one that it may have, where dates of the object say so.
+    pub since: Option<i64>,
+}
+
+impl Done {
+    pub(crate) fn of(touch: Touch, date: Option<i64>, since: Option<i64>) -> Done {
+        Done {
+            call: touch.call,
+            item: touch.item,
+            object: touch.object,
+            date,
+            since,
+        }
+    }
 }
 
 /// A choice among options, each of which is a list of wishes.

@@ -1,7 +1,7 @@
 //! Undone items whose answers leave their payloads out.
 
-use kmipa_check::Call;
 use kmipa_msgs::{Answer, Ask, Asked, Payload, is_wanted};
+use kmipa_record::Call;
 
 /// Whether an answer leaves a payload out that a witness has to give.
 pub(crate) fn is_hidden(ask: &Ask<'_>, answer: &Answer<'_>) -> bool {

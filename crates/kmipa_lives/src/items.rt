@@ -5,9 +5,8 @@ use crate::looks::Look;
 use crate::shown::Shown;
 use kmipa_attrs::{AttrSet, Filter, ObjectType};
 use kmipa_batch::is_refused_message;
-use kmipa_check::Call;
 use kmipa_msgs::{Answer, Ask, Asked, Payload, Status};
-use kmipa_record::Declaration;
+use kmipa_record::{Call, Declaration};
 use std::alloc::{AllocError, Global};
 use std::collections::BTreeMap;
 

@@ -3,12 +3,12 @@
 use crate::hidden::{is_about_held, is_setting};
 use crate::items::{Guise, Items, Part};
 use crate::matching::{Maker, Matching};
-use crate::shown::Shown;
+use crate::shown::{Given, Shown};
 use crate::times::{Time, time_at};
 use kmipa_attrs::{AttrSet, ObjectType};
-use kmipa_check::Call;
 use kmipa_msgs::{Ask, Asked, BatchOption};
 use kmipa_ops::{Effect, row_of};
+use kmipa_record::Call;
 use std::alloc::{AllocError, Global};
 
 /// So many items that may have brought one object are tried.
@@ -196,7 +196,7 @@ fn may_bring(calls: &[Call<'_>], maker: Maker, shown: &Shown<'_>) -> bool {
     let Some(ask) = call.request.items.get(maker.item) else {
         return false;
     };
-    let is_late = match shown.date_left(&ask.asked) {
+    let is_late = match shown.date_left(&ask.asked, Given::nothing()) {
         Some(date) => date < maker.stamp,
         None => false,
     };

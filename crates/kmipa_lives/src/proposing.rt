@@ -2,7 +2,6 @@
 
 ghost use Rattle.std.specs.Prelude.{◌<◌, All, IfOk, IfSome, length};
 ghost use Rattle.kmipa_store.specs.Choices.{IsSound};
-ghost use Rattle.kmipa_record.specs.Declarations.{AreDeclared, declaration_of};
 
 use crate::choices::{Choice, add_choices};
 use crate::items::{Items, Known, Touch};
@@ -13,8 +12,8 @@ use crate::sorting::graph_of;
 use crate::stories::{Recording, Story};
 use crate::switches::Switches;
 use crate::times::times_of;
-use kmipa_check::{Call, open_ledger, rules_of_declaration};
-use kmipa_record::Declaration;
+use kmipa_msgs::Rules;
+use kmipa_record::{Call, Declaration};
 use kmipa_store::Ledger;
 use std::alloc::{AllocError, Global};
 
@@ -24,14 +23,16 @@ const EFFORT: u64 = 20_000_000;
 /// So many items are tried, one life with another.
 const MOST_TRIES: usize = 1_500_000;
 
-/// The places of calls in an order that seems to explain their answers, object by object; none where none was found. Nothing is promised of it,
-/// but that these are places of calls: it is to be checked.
-pub fn propose<'x, 'a>(
+/// The places of calls in an order that seems to explain their answers, object by object; none where none was found. The rules and the ledger are
+/// those of the declaration. Nothing is promised of the order, but that these are places of calls: it is to be checked.
+pub fn propose<'x, 'a, L: Ledger>(
     alloc: Global,
     calls: &'x [Call<'a>],
     declaration: &'x Declaration,
+    rules: Rules,
+    ledger: &mut L,
 ) -> Result<Option<Vec<usize>>, AllocError>
-    requires { AreDeclared (declaration_of declaration.now) }
+    requires { IsSound (L.state ledger.old).now }
     ensures { IfOk result (λ order. IfSome order (λ o. All (λ place. place < length calls.now) o.items)) }
 {
     let Some(times) = times_of(alloc, calls)? else {
@@ -41,40 +42,31 @@ pub fn propose<'x, 'a>(
     let recording = Recording {
         calls,
         times,
-        rules: rules_of_declaration(alloc, declaration)?,
+        rules,
         switches: Switches::none(alloc),
         is_open: false,
         least: i64::MIN,
     };
-    match mending_of(alloc, declaration, &recording, &mut items)? {
+    match mending_of(alloc, ledger, &recording, &mut items)? {
         Some(mending) => Ok(Some(calls_among(alloc, &mending.graph.order, recording.calls.len())?)),
         None => Ok(None),
     }
 }
 
 /// The graph of a recording, with the choices that the lives of its objects leave, all taken; none where they can't be.
-pub(crate) fn mending_of(
+pub(crate) fn mending_of<L: Ledger>(
     alloc: Global,
-    declaration: &Declaration,
+    ledger: &mut L,
     recording: &Recording<'_, '_>,
     items: &mut Items<'_>,
 ) -> Result<Option<Mending>, AllocError>
-    requires { AreDeclared (declaration_of declaration.now) }
+    requires { IsSound (L.state ledger.old).now }
 {
     if !leave_out(alloc, items, recording)? {
         return Ok(None);
     }
     items.touches.sort_unstable();
-    let Ok(mut ledger) = open_ledger(alloc, declaration) else {
-        return Err(AllocError);
-    };
-    match choices_of(
-        alloc,
-        &mut ledger,
-        recording,
-        &items.objects,
-        &items.touches,
-    )? {
+    match choices_of(alloc, ledger, recording, &items.objects, &items.touches)? {
         Some(choices) => settled(alloc, recording, choices),
         None => Ok(None),
     }

@@ -4,6 +4,63 @@ use kmipa_attrs::{AttrSet, Filter, Name, ObjectType};
 use kmipa_msgs::{Ask, Asked, Got, Payload};
 use kmipa_ops::{Effect, row_of};
 
+/// The dates that an object was given at its birth.
+#[derive(Clone, Copy)]
+pub struct Given {
+    pub activation: Option<i64>,
+    pub deactivation: Option<i64>,
+}
+
+impl Given {
+    pub(crate) fn nothing() -> Given {
+        Given {
+            activation: None,
+            deactivation: None,
+        }
+    }
+
+    /// Those among these attributes.
+    pub(crate) fn of(attributes: &AttrSet) -> Given {
+        Given {
+            activation: attributes.activation,
+            deactivation: attributes.deactivation,
+        }
+    }
+}
+
+/// A date of an object, as answers show it: the first one, and the first that is another.
+#[derive(Clone, Copy)]
+pub struct Dates {
+    pub one: Option<i64>,
+    pub other: Option<i64>,
+}
+
+impl Dates {
+    fn none() -> Dates {
+        Dates {
+            one: None,
+            other: None,
+        }
+    }
+
+    fn take(&mut self, date: Option<i64>) {
+        if self.one.is_none() {
+            self.one = date;
+        } else if self.other.is_none() && date != self.one {
+            self.other = date;
+        }
+    }
+
+    /// The first one that isn't this.
+    pub(crate) fn besides(self, own: Option<i64>) -> Option<i64> {
+        if self.one == own {
+            self.other
+        } else {
+            self.one
+        }
+    }
+}
+
 /// What answers show of an object.
 #[derive(Clone, Copy)]
 pub struct Shown<'b> {
@@ -13,9 +70,9 @@ pub struct Shown<'b> {
     attributes: Option<&'b AttrSet>,
     name: Option<&'b Name>,
     initial: Option<i64>,
-    activation: Option<i64>,
-    /// The Deactivation Date, where that is another than the one that it was given.
-    pub deactivation: Option<i64>,
+    /// The Activation Date and the Deactivation Date, where these are others than those that its birth is known to have given it.
+    pub activation: Dates,
+    pub deactivation: Dates,
     compromise: Option<i64>,
     destroy: Option<i64>,
 }
@@ -28,8 +85,8 @@ impl<'b> Shown<'b> {
             attributes: None,
             name: None,
             initial: None,
-            activation: None,
-            deactivation: None,
+            activation: Dates::none(),
+            deactivation: Dates::none(),
             compromise: None,
             destroy: None,
         }
@@ -64,32 +121,32 @@ impl<'b> Shown<'b> {
     }
 
     fn take_attributes(&mut self, shown: &'b AttrSet, given: Option<&'b AttrSet>) {
-        let (activation, deactivation) = match given {
-            Some(given) => (given.activation, given.deactivation),
-            None => (None, None),
+        let given = match given {
+            Some(given) => Given::of(given),
+            None => Given::nothing(),
         };
         self.name = self.name.or(shown.names.as_slice().first());
         self.attributes = self.attributes.or(Some(shown));
         self.initial = self.initial.or(shown.initial);
-        if shown.activation != activation {
-            self.activation = self.activation.or(shown.activation);
+        if shown.activation != given.activation {
+            self.activation.take(shown.activation);
         }
-        if shown.deactivation != deactivation {
-            self.deactivation = self.deactivation.or(shown.deactivation);
+        if shown.deactivation != given.deactivation {
+            self.deactivation.take(shown.deactivation);
         }
         self.compromise = self.compromise.or(shown.compromise);
         self.destroy = self.destroy.or(shown.destroy);
     }
 
-    /// The date that the success of an item about it has left, as far as one is shown.
-    pub(crate) fn date_left(&self, asked: &Asked<'_>) -> Option<i64> {
+    /// The date that the success of an item about it has left, as far as one is shown that its object wasn't given at birth.
+    pub(crate) fn date_left(&self, asked: &Asked<'_>, own: Given) -> Option<i64> {
         match asked {
             Asked::Create(_) => self.initial,
             Asked::Register(_) => self.initial,
-            Asked::Activate(_) => self.activation,
+            Asked::Activate(_) => self.activation.besides(own.activation),
             Asked::Revoke(revoke) => match revoke.code {
                 2 | 3 => self.compromise,
-                _ => self.deactivation,
+                _ => self.deactivation.besides(own.deactivation),
             },
             Asked::Destroy(_) => self.destroy,
             _ => None,

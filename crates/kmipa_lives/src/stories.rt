@@ -3,11 +3,11 @@
 use crate::hidden::is_about_held;
 use crate::items::{Known, Part, Touch};
 use crate::openings::{is_bound, is_changer, made_by};
-use crate::shown::Shown;
+use crate::shown::{Given, Shown};
 use crate::switches::Switches;
 use crate::times::{Time, time_at};
-use kmipa_check::Call;
 use kmipa_msgs::{Ask, Asked, BatchOption, Rules, Status};
+use kmipa_record::Call;
 use std::alloc::{AllocError, Global};
 
 /// The calls, their times, and the rules of the server.
@@ -42,11 +42,40 @@ pub struct Group {
     pub end: usize,
 }
 
+/// The Time Stamps that an item of an open call may have by the dates of its object: not below one, and below another.
+#[derive(Clone, Copy)]
+pub struct Period {
+    pub since: Option<i64>,
+    pub until: Option<i64>,
+}
+
+impl Period {
+    /// All of them.
+    pub(crate) fn any() -> Period {
+        Period {
+            since: None,
+            until: None,
+        }
+    }
+
+    /// Those that the Activation Date of an object leaves to the first Activate or Revoke of it: a Revoke comes since that date, and an Activate before it.
+    pub(crate) fn of_first(given: Given, ask: &Ask<'_>) -> Period {
+        let (since, until) = match &ask.asked {
+            Asked::Revoke(revoke) if !is_compromise(revoke.code) => (given.activation, None),
+            Asked::Activate(_) => (None, given.activation),
+            _ => (None, None),
+        };
+        Period { since, until }
+    }
+}
+
 /// What the calls say of one object: its items, call by call.
 #[derive(Drop)]
 pub struct Story<'s> {
     pub id: &'s str,
     pub shown: Shown<'s>,
+    /// The dates that it was given, where its birth or the declaration says them.
+    given: Given,
     pub touches: &'s [Touch],
     pub groups: Vec<Group>,
     /// Nothing shows it: it is there only where an open call made it for the sake of other items.
@@ -73,6 +102,10 @@ impl<'s> Story<'s> {
         Ok(Story {
             id: known.id,
             shown: known.shown,
+            given: match known.given {
+                Some((_, given)) => Given::of(given),
+                None => Given::nothing(),
+            },
             touches,
             groups: with_parts(alloc, recording, touches, &groups)?,
             is_unseen,
@@ -105,19 +138,52 @@ impl<'s> Story<'s> {
             })
     }
 
-    /// The date that the success of the item at a place leaves behind a chain, as far as one is shown: a Destroy also deactivates what no Revoke
-    /// has.
+    /// The date that the success of an item leaves behind a chain, as far as one is shown that its object wasn't given at birth: a Destroy also
+    /// deactivates what no Revoke has.
     pub(crate) fn date_left(
         &self,
         recording: &Recording<'_, '_>,
         chain: &[usize],
         ask: &Ask<'_>,
+        own: Given,
     ) -> Option<i64> {
-        let date = self.shown.date_left(&ask.asked);
+        let date = self.shown.date_left(&ask.asked, own);
         if date.is_some() || !is_destroy(&ask.asked) || self.is_revoked(recording, chain) {
             return date;
         }
-        self.shown.deactivation
+        self.shown.deactivation.besides(own.deactivation)
+    }
+
+    /// The dates that the object was given by the item of a chain that makes it, the first of its group, or else as is known anyway.
+    pub(crate) fn given_along(&self, recording: &Recording<'_, '_>, chain: &[usize]) -> Given {
+        for group in chain {
+            if let Some(first) = self.items(*group).first() {
+                if let Some(given) = given_by(recording, *first) {
+                    return given;
+                }
+            }
+        }
+        self.given
+    }
+
+    /// The place of the first Activate or Revoke of a chain.
+    pub(crate) fn first_handling(
+        &self,
+        recording: &Recording<'_, '_>,
+        chain: &[usize],
+    ) -> Option<usize> {
+        for number in chain {
+            let Some(group) = self.groups.get(*number) else {
+                continue;
+            };
+            for place in group.from..group.to {
+                match self.touches.get(place) {
+                    Some(touch) if is_handling(recording, *touch) => return Some(place),
+                    _ => {}
+                }
+            }
+        }
+        None
     }
 
     /// Whether an item of a chain may deactivate by a Revoke.
@@ -321,8 +387,32 @@ fn is_revoke(recording: &Recording<'_, '_>, touch: Touch) -> bool {
 /// Whether an item is a Revoke for a reason other than a compromise.
 fn is_deactivating(recording: &Recording<'_, '_>, touch: Touch) -> bool {
     match asked_by(recording, touch) {
-        Some(Asked::Revoke(revoke)) => revoke.code != 2 && revoke.code != 3,
+        Some(Asked::Revoke(revoke)) => !is_compromise(revoke.code),
         _ => false,
+    }
+}
+
+/// Whether a Revocation Reason Code is one of the compromises.
+fn is_compromise(code: u32) -> bool {
+    code == 2 || code == 3
+}
+
+/// Whether an item is an Activate or a Revoke.
+fn is_handling(recording: &Recording<'_, '_>, touch: Touch) -> bool {
+    match asked_by(recording, touch) {
+        Some(Asked::Activate(_)) => true,
+        Some(Asked::Revoke(_)) => true,
+        _ => false,
+    }
+}
+
+/// The dates that an object was given by the item that makes it.
+fn given_by(recording: &Recording<'_, '_>, touch: Touch) -> Option<Given> {
+    let call = recording.calls.get(touch.call)?;
+    let ask = call.request.items.get(touch.item)?;
+    match made_by(ask) {
+        Some((_, given)) => Some(Given::of(given)),
+        None => None,
     }
 }
 

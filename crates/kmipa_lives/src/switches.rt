@@ -4,11 +4,13 @@ use crate::choices::{Done, Wish};
 use crate::hidden::{is_about_held, is_setting};
 use crate::items::{Items, Part, Touch};
 use crate::openings::{is_bound, is_changer, made_by, named_id};
-use crate::stories::{Group, Recording, Story, is_destroy};
+use crate::shown::{Dates, Given};
+use crate::stories::{Group, Period, Recording, Story};
 use crate::times::Time;
-use kmipa_check::Call;
-use kmipa_msgs::{Ask, BatchOption};
+use kmipa_attrs::AttrSet;
+use kmipa_msgs::{Ask, Asked, BatchOption};
 use kmipa_ops::{Effect, row_of};
+use kmipa_record::Call;
 use std::alloc::{AllocError, Global};
 
 /// Two nodes at a Time Stamp: what comes between them has it.
@@ -208,7 +210,10 @@ impl Switches {
 
     fn fence(&self, date: i64) -> Option<Fence> {
         let place = self.fences.partition_point(|fence| fence.date < date);
-        self.fences.get(place).copied()
+        match self.fences.get(place) {
+            Some(fence) if fence.date == date => Some(*fence),
+            _ => None,
+        }
     }
 
     /// Wishes what a course asks of the open calls about its object, and notes what they do.
@@ -220,6 +225,8 @@ impl Switches {
         wishes: &mut Vec<Wish>,
         done: &mut Vec<Done>,
     ) -> Result<(), AllocError> {
+        let given = story.given_along(recording, chain);
+        let first = story.first_handling(recording, chain);
         for (place, touch) in story.touches.iter().enumerate() {
             let Some(call) = recording.calls.get(touch.call) else {
                 continue;
@@ -229,16 +236,16 @@ impl Switches {
             };
             let gate = self.gate(touch.call, touch.item, call.request.option);
             if story.is_done(chain, place) {
-                let date = story.date_left(recording, chain, ask);
+                let date = story.date_left(recording, chain, ask, given);
+                let period = match date {
+                    None if first == Some(place) => Period::of_first(given, ask),
+                    _ => Period::any(),
+                };
                 if !story.is_unseen && is_deed(ask) {
-                    done.push(Done {
-                        call: touch.call,
-                        item: touch.item,
-                        object: touch.object,
-                        date,
-                    })?;
+                    done.push(Done::of(*touch, date, period.since))?;
                 }
                 self.wish_date(*touch, date, wishes)?;
+                self.wish_period(*touch, period, wishes)?;
                 self.wish_claim(*touch, wishes)?;
                 wish_gate(gate, true, wishes)?;
             } else if story.is_settled(chain, place, ask) {
@@ -328,6 +335,32 @@ impl Switches {
         Ok(())
     }
 
+    /// Wishes a call behind all of lesser Time Stamps than the first of a period, and before all from its end on.
+    fn wish_period(
+        &self,
+        touch: Touch,
+        period: Period,
+        wishes: &mut Vec<Wish>,
+    ) -> Result<(), AllocError> {
+        if let Some(date) = period.since {
+            if let Some(fence) = self.fence(date) {
+                wishes.push(Wish {
+                    from: fence.low,
+                    to: touch.call,
+                })?;
+            }
+        }
+        if let Some(date) = period.until {
+            if let Some(fence) = self.fence(date.saturating_sub(1)) {
+                wishes.push(Wish {
+                    from: touch.call,
+                    to: fence.high,
+                })?;
+            }
+        }
+        Ok(())
+    }
+
     /// Wishes the node of an object before those of all others that the same item may have brought.
     fn wish_claim(&self, touch: Touch, wishes: &mut Vec<Wish>) -> Result<(), AllocError> {
         let rivals = self.rivals(touch);
@@ -401,10 +434,37 @@ fn push_dates(
     let Some(known) = items.objects.get(touch.object) else {
         return Ok(());
     };
-    if let Some(date) = known.shown.date_left(&ask.asked) {
+    match &ask.asked {
+        Asked::Activate(_) => push_shown(known.shown.activation, dates)?,
+        Asked::Revoke(_) => push_shown(known.shown.deactivation, dates)?,
+        Asked::Destroy(_) => push_shown(known.shown.deactivation, dates)?,
+        _ => {}
+    }
+    if let Some(date) = known.shown.date_left(&ask.asked, Given::nothing()) {
         dates.push(date)?;
     }
-    if let (true, Some(date)) = (is_destroy(&ask.asked), known.shown.deactivation) {
+    match (made_by(ask), known.given) {
+        (Some((_, given)), _) => push_given(given, dates),
+        (None, Some((_, given))) if is_changer(&ask.asked) => push_given(given, dates),
+        _ => Ok(()),
+    }
+}
+
+/// Adds the dates that answers show.
+fn push_shown(shown: Dates, dates: &mut Vec<i64>) -> Result<(), AllocError> {
+    if let Some(date) = shown.one {
+        dates.push(date)?;
+    }
+    if let Some(date) = shown.other {
+        dates.push(date)?;
+    }
+    Ok(())
+}
+
+/// Adds the date when an object of these attributes becomes active, and the last one before it.
+fn push_given(given: &AttrSet, dates: &mut Vec<i64>) -> Result<(), AllocError> {
+    if let Some(date) = given.activation {
+        dates.push(date.saturating_sub(1))?;
         dates.push(date)?;
     }
     Ok(())

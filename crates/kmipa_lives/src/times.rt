@@ -1,7 +1,7 @@
 //! When calls were.
 
-use kmipa_check::Call;
 use kmipa_msgs::{BatchOption, Request, Response, Status};
+use kmipa_record::Call;
 use std::alloc::{AllocError, Global};
 
 /// When a call was, and whether what it did was undone.

@@ -7,6 +7,7 @@ use crate::answering::answer_of;
 use crate::hidden::is_hidden;
 use crate::items::{Part, Touch};
 use crate::openings::{is_changer, made_by};
+use crate::shown::Given;
 use crate::stories::{Recording, Story, is_destroy};
 use crate::times::time_at;
 use kmipa_batch::is_unordered;
@@ -234,7 +235,8 @@ fn take_touch<L: Ledger>(
     }
 }
 
-/// Takes the success of an item of an open call: at the date that it is shown to have left, or else as soon as may be.
+/// Takes the success of an item of an open call: at the date that it is shown to have left, or else as soon as may be, or a Revoke when the object
+/// becomes active by its own date.
 fn take_open<L: Ledger>(
     alloc: Global,
     ledger: &mut L,
@@ -250,28 +252,57 @@ fn take_open<L: Ledger>(
     if made_by(ask).is_none() && !is_changer(&ask.asked) {
         return Ok(is_read(ledger, story.id, ask));
     }
-    let stamp = match date_behind(ledger, story, ask) {
-        Some(date) => date,
-        None => ledger.moment().max(time_at(&recording.times, call).stamp),
-    };
-    ledger.set_moment(stamp);
+    if let Some(date) = date_behind(ledger, story, ask) {
+        return take_done(alloc, ledger, recording, story, ask, date);
+    }
+    let soon = ledger.moment().max(time_at(&recording.times, call).stamp);
+    if take_done(alloc, ledger, recording, story, ask, soon)? {
+        return Ok(true);
+    }
+    match activation_of(ledger, story, ask) {
+        Some(date) if date > soon => take_done(alloc, ledger, recording, story, ask, date),
+        _ => Ok(false),
+    }
+}
+
+/// The same at a date.
+fn take_done<L: Ledger>(
+    alloc: Global,
+    ledger: &mut L,
+    recording: &Recording<'_, '_>,
+    story: &Story<'_>,
+    ask: &Ask<'_>,
+    date: i64,
+) -> Result<bool, AllocError>
+    requires { IsSound (L.state ledger.old).now }
+    ensures marks { (L.state ledger.new).marks ≡ (L.state ledger.old).marks }
+    ensures sound { OnOk result (IsSound (L.state ledger.new).now) }
+{
+    ledger.set_moment(date);
     let answer = answer_of(ask, story.id, Status::Success);
     take_item(alloc, ledger, &recording.rules, story.id, ask, &answer)
 }
 
+/// The date from which on the object is active, where a Revoke asks for it.
+fn activation_of<L: Ledger>(ledger: &L, story: &Story<'_>, ask: &Ask<'_>) -> Option<i64> {
+    match (life_of(ledger, story.id), &ask.asked) {
+        (Some(life), Asked::Revoke(_)) => life.activation,
+        _ => None,
+    }
+}
+
 /// The date that the success of an item leaves on the object as it is, as far as one is shown: a Destroy also deactivates.
 fn date_behind<L: Ledger>(ledger: &L, story: &Story<'_>, ask: &Ask<'_>) -> Option<i64> {
-    let date = story.shown.date_left(&ask.asked);
-    match life_of(ledger, story.id) {
-        Some(life) if date.is_none() && is_destroy(&ask.asked) => {
-            if life.deactivation == story.shown.deactivation {
-                None
-            } else {
-                story.shown.deactivation
-            }
-        }
-        _ => date,
+    let Some(place) = ledger.find(story.id) else {
+        return story.shown.date_left(&ask.asked, Given::nothing());
+    };
+    let object = ledger.at(place);
+    let given = Given::of(&object.given);
+    let date = story.shown.date_left(&ask.asked, given);
+    if date.is_some() || !is_destroy(&ask.asked) || object.life.deactivation != given.deactivation {
+        return date;
     }
+    story.shown.deactivation.besides(given.deactivation)
 }
 
 /// Whether the object is there to be read.

@@ -1,7 +1,7 @@
 //! An order of calls that aren't plain, proposed: with what open ones do.
 
 ghost use Rattle.std.specs.Prelude.{◌<◌, All, IfOk, IfSome, length};
-ghost use Rattle.kmipa_record.specs.Declarations.{AreDeclared, declaration_of};
+ghost use Rattle.kmipa_store.specs.Choices.{IsSound};
 
 use crate::choices::Done;
 use crate::items::Items;
@@ -10,8 +10,9 @@ use crate::proposing::{calls_among, mending_of};
 use crate::stories::Recording;
 use crate::switches::Switches;
 use crate::times::all_times_of;
-use kmipa_check::{Call, rules_of_declaration};
-use kmipa_record::Declaration;
+use kmipa_msgs::Rules;
+use kmipa_record::{Call, Declaration};
+use kmipa_store::Ledger;
 use std::alloc::{AllocError, Global};
 
 /// What an item of an open call does.
@@ -35,14 +36,17 @@ pub struct Proposed<'b> {
 }
 
 /// The calls in an order that seems to explain their answers, object by object: each that has ended, and where `is_open` those open ones that
-/// something shows to have been done; none where no order was found. Nothing is promised of it, but that these are places of calls.
-pub fn propose_turns<'x, 'a>(
+/// something shows to have been done; none where no order was found. The rules and the ledger are those of the declaration. Nothing is promised of
+/// the order, but that these are places of calls.
+pub fn propose_turns<'x, 'a, L: Ledger>(
     alloc: Global,
     calls: &'x [Call<'a>],
     declaration: &'x Declaration,
+    rules: Rules,
+    ledger: &mut L,
     is_open: bool,
 ) -> Result<Option<Vec<Proposed<'x>>>, AllocError>
-    requires { AreDeclared (declaration_of declaration.now) }
+    requires { IsSound (L.state ledger.old).now }
     ensures { IfOk result (λ turns. IfSome turns (λ ts. All (λ turn. turn.call < length calls.now) ts.items)) }
 {
     let mut times = all_times_of(alloc, calls)?;
@@ -54,16 +58,18 @@ pub fn propose_turns<'x, 'a>(
     let recording = Recording {
         calls,
         times,
-        rules: rules_of_declaration(alloc, declaration)?,
+        rules,
         switches,
         is_open,
         least: least_stamp(calls),
     };
-    let Some(mending) = mending_of(alloc, declaration, &recording, &mut items)? else {
+    let Some(mending) = mending_of(alloc, ledger, &recording, &mut items)? else {
         return Ok(None);
     };
     let order = calls_among(alloc, &mending.graph.order, calls.len())?;
-    Ok(Some(turns_of(alloc, calls, &items, &order, &mending.done()?)?))
+    let mut done = mending.done()?;
+    date_late(calls, &order, &mut done);
+    Ok(Some(turns_of(alloc, calls, &items, &order, &done)?))
 }
 
 fn least_stamp(calls: &[Call<'_>]) -> i64 {
@@ -74,6 +80,42 @@ fn least_stamp(calls: &[Call<'_>]) -> i64 {
         }
     }
     least
+}
+
+/// Dates what may not come before some date: there, or at the Time Stamp of what is ahead of it, if that is greater.
+fn date_late(calls: &[Call<'_>], order: &[usize], done: &mut Vec<Done>) {
+    let mut stamp = i64::MIN;
+    for place in order {
+        if let Some(call) = calls.get(*place) {
+            stamp = match &call.response {
+                Some(response) => response.stamp.max(stamp),
+                None => date_call(done, *place, stamp),
+            };
+        }
+    }
+}
+
+/// The same of one open call; answers its Time Stamp.
+fn date_call(done: &mut Vec<Done>, call: usize, before: i64) -> i64 {
+    let from = done.partition_point(|done| done.call < call);
+    let to = done.partition_point(|done| done.call <= call);
+    let mut date: Option<i64> = None;
+    let mut since = before;
+    for deed in done.get(from..to).unwrap_or(&[]) {
+        date = date.or(deed.date);
+        since = since.max(deed.since.unwrap_or(before));
+    }
+    if let Some(date) = date {
+        return date.max(before);
+    }
+    for place in from..to {
+        if let Some(deed) = done.get_mut(place) {
+            if since > before {
+                deed.date = Some(since);
+            }
+        }
+    }
+    since
 }
 
 /// The turns of these calls, but for open ones that do nothing.
