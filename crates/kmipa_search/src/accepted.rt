@@ -5,16 +5,14 @@ ghost use Rattle.kmipa_record.specs.Declarations.{AreDeclared, declaration_of};
 ghost use Rattle.kmipa_record.specs.Marks.{AreRecorded, MarkOf};
 ghost use Rattle.kmipa_record.specs.Witnesses.{witness_of};
 ghost use Rattle.kmipa_check.specs.Calls.{AreCalls, IsRecorded, call_of};
-ghost use Rattle.kmipa_search.specs.Candidates.{candidate_step};
-ghost use Rattle.kmipa_search.specs.Confirming.{turns_at};
-ghost use Rattle.kmipa_search.specs.Plain.{ArePlain};
-ghost use Rattle.kmipa_search.specs.Found.{Finds};
+ghost use Rattle.kmipa_orders.specs.Candidates.{candidate_step};
+ghost use Rattle.kmipa_orders.specs.Confirming.{turns_at};
+ghost use Rattle.kmipa_orders.specs.Plain.{ArePlain};
+ghost use Rattle.kmipa_orders.specs.Found.{Finds};
 
-use crate::candidate::Candidate;
-use crate::check_laws::check_laws;
-use crate::found::Found;
-use kmipa_check::{Call, CheckFault, Verdict, check_calls};
-use kmipa_record::{Declaration, Turn, Witness};
+use kmipa_check::{CheckFault, Verdict, check_calls};
+use kmipa_orders::{Candidate, Found, check_laws};
+use kmipa_record::{Call, Declaration, Turn, Witness};
 use std::alloc::{AllocError, Global};
 
 /// What is found where a check accepts the calls in the order of these places, each of which was tried in so many steps; none where it doesn't.

@@ -1,12 +1,11 @@
 //! What answers show that the server itself gave objects at birth. Nothing rests on it: a check judges what is made of it.
 
-use crate::open::{asked_id, shown_id};
 use kmipa_attrs::{AttrSet, Name, write_attrs};
-use kmipa_check::Call;
 use kmipa_msgs::{Answer, Ask, Got, Payload, Status};
 use kmipa_object::{Act, State};
 use kmipa_ops::{Change, Effect, New, row_of};
-use kmipa_record::{Birth, OwnAttribute};
+use kmipa_orders::{asked_id, shown_id};
+use kmipa_record::{Birth, Call, OwnAttribute};
 use std::alloc::{AllocError, Global};
 
 /// The State Active, by its number.

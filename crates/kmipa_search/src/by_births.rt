@@ -5,16 +5,15 @@ ghost use Rattle.kmipa_record.specs.Declarations.{AreDeclared, declaration_of};
 ghost use Rattle.kmipa_record.specs.Marks.{AreRecorded};
 ghost use Rattle.kmipa_record.specs.Transcripts.{transcript_of};
 ghost use Rattle.kmipa_check.specs.Grants.{GrantsNothing, grants_declared};
-ghost use Rattle.kmipa_search.specs.Found.{Finds};
+ghost use Rattle.kmipa_orders.specs.Found.{Finds};
 
 use crate::births::{GivenAtBirth, given_at_birth};
+use crate::by_lives::places_by_lives;
 use crate::by_moments::{or_turns, places_by_end, tolerance_of, try_turns, turns_by_end};
-use crate::found::Found;
-use crate::open::dates_left;
-use kmipa_check::{Call, CheckFault, Grants, Posed, StepFault, born_in, read_calls};
-use kmipa_lives::propose;
+use kmipa_check::{CheckFault, Grants, Posed, StepFault, born_in, read_calls};
 use kmipa_msgs::Request;
-use kmipa_record::{Declaration, Transcript, Turn};
+use kmipa_orders::{Found, dates_left};
+use kmipa_record::{Call, Declaration, Transcript, Turn};
 use std::alloc::Global;
 
 /// What is found after so many steps with births, where the declaration has own lines and answers show something that they allow: each try makes one
@@ -69,7 +68,7 @@ fn turns_by_lives(
     let Some(born) = born_calls(alloc, transcript, declaration, given)? else {
         return Ok(None);
     };
-    let Some(places) = propose(alloc, &born, declaration)? else {
+    let Some(places) = places_by_lives(alloc, &born, declaration)? else {
         return Ok(None);
     };
     let mut turns = Vec::with_capacity(alloc, places.len())?;

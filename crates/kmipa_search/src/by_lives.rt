@@ -4,19 +4,17 @@ ghost use Rattle.std.specs.Prelude.{◌≡◌, ◌<◌, All, IfErr, IfOk, IfSome
 ghost use Rattle.kmipa_record.specs.Declarations.{AreDeclared, declaration_of};
 ghost use Rattle.kmipa_record.specs.Marks.{AreRecorded, MarkOf};
 ghost use Rattle.kmipa_check.specs.Calls.{AreCalls, IsRecorded, call_of};
-ghost use Rattle.kmipa_search.specs.Candidates.{candidate_step};
-ghost use Rattle.kmipa_search.specs.Plain.{ArePlain};
-ghost use Rattle.kmipa_search.specs.Progress.{AllReadable};
-ghost use Rattle.kmipa_search.specs.Found.{Finds};
+ghost use Rattle.kmipa_orders.specs.Candidates.{candidate_step};
+ghost use Rattle.kmipa_orders.specs.Plain.{ArePlain};
+ghost use Rattle.kmipa_orders.specs.Progress.{AllReadable};
+ghost use Rattle.kmipa_orders.specs.Found.{Finds};
 
 use crate::accepted::accepted_order;
-use crate::candidate::Candidate;
-use crate::found::Found;
-use crate::order::EARLY;
-use kmipa_check::{Call, CheckFault};
+use kmipa_check::{CheckFault, open_ledger, rules_of_declaration};
 use kmipa_lives::propose;
-use kmipa_record::Declaration;
-use std::alloc::{AllocError, Global};
+use kmipa_orders::{Candidate, EARLY, Found};
+use kmipa_record::{Call, Declaration};
+use std::alloc::Global;
 
 /// What is found where the lives of the objects propose an order, and a check accepts it: as many steps as a search makes before it asks for
 /// one, and one for each call. `None` where there is no such order, or the budget is less.
@@ -51,19 +49,35 @@ fn proposed_order(
     calls: &[Call],
     declaration: &Declaration,
     count: usize,
-) -> Result<Option<Vec<usize>>, AllocError>
+) -> Result<Option<Vec<usize>>, CheckFault>
     requires { AreDeclared (declaration_of declaration.now) }
     ensures within { IfOk result (λ o. IfSome o (λ order. All (λ place. place < count) order.items)) }
     ensures each { IfOk result (λ o. IfSome o (λ order. length order.items ≡ count)) }
+    ensures memory { IfErr result (λ fault. fault ≡ CheckFault.Memory) }
 {
     if calls.len() != count {
         return Ok(None);
     }
-    let Some(order) = propose(alloc, calls, declaration)? else {
+    let Some(order) = places_by_lives(alloc, calls, declaration)? else {
         return Ok(None);
     };
     if order.len() != count {
         return Ok(None);
     }
     Ok(Some(order))
+}
+
+/// The places of calls in the order that the lives of a declaration's objects propose, if they propose one.
+pub(crate) fn places_by_lives(
+    alloc: Global,
+    calls: &[Call],
+    declaration: &Declaration,
+) -> Result<Option<Vec<usize>>, CheckFault>
+    requires { AreDeclared (declaration_of declaration.now) }
+    ensures within { IfOk result (λ o. IfSome o (λ order. All (λ place. place < length calls.now) order.items)) }
+    ensures memory { IfErr result (λ fault. fault ≡ CheckFault.Memory) }
+{
+    let rules = rules_of_declaration(alloc, declaration)?;
+    let mut ledger = open_ledger(alloc, declaration)?;
+    Ok(propose(alloc, calls, declaration, rules, &mut ledger)?)
 }

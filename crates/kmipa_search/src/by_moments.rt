@@ -5,17 +5,15 @@ ghost use Rattle.kmipa_record.specs.Declarations.{AreDeclared, declaration_of};
 ghost use Rattle.kmipa_record.specs.Marks.{AreRecorded};
 ghost use Rattle.kmipa_record.specs.Transcripts.{transcript_of};
 ghost use Rattle.kmipa_check.specs.Grants.{GrantsNothing, grants_declared};
-ghost use Rattle.kmipa_search.specs.ByMoments.{IsKept};
-ghost use Rattle.kmipa_search.specs.Found.{Finds, FindsIn, Searches, SearchesIn};
+ghost use Rattle.kmipa_orders.specs.ByMoments.{IsKept};
+ghost use Rattle.kmipa_orders.specs.Found.{Finds, FindsIn, Searches, SearchesIn};
 
 use crate::births::GivenAtBirth;
 use crate::by_births::search_with_births;
-use crate::found::Found;
-use crate::grants::grants_nothing;
-use crate::open::dates_left;
 use crate::searching::try_witness;
-use kmipa_check::{Call, CheckFault, needs_fill};
-use kmipa_record::{Declaration, Transcript, Turn, Witness};
+use kmipa_check::{CheckFault, needs_fill};
+use kmipa_orders::{Found, dates_left, grants_nothing};
+use kmipa_record::{Call, Declaration, Transcript, Turn, Witness};
 use std::alloc::{AllocError, Global};
 
 /// So many tries of all calls are made at moments, and so many besides with births.

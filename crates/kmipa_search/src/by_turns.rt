@@ -5,18 +5,16 @@ ghost use Rattle.kmipa_store.specs.Choices.{IsSound};
 ghost use Rattle.kmipa_record.specs.Declarations.{AreDeclared, declaration_of};
 ghost use Rattle.kmipa_record.specs.Marks.{AreRecorded};
 ghost use Rattle.kmipa_record.specs.Transcripts.{transcript_of};
-ghost use Rattle.kmipa_search.specs.Guessing.{AreAllRecorded};
-ghost use Rattle.kmipa_search.specs.Found.{Finds};
+ghost use Rattle.kmipa_orders.specs.Guessing.{AreAllRecorded};
+ghost use Rattle.kmipa_orders.specs.Found.{Finds};
 
-use crate::found::Found;
-use crate::guessing::take_turn;
 use crate::made_turns::{MadeBy, made_turn};
-use crate::order::EARLY;
 use crate::searching::try_witness;
 use crate::sights::Sources;
-use kmipa_check::{Call, CheckFault, open_ledger, rules_of_declaration};
+use kmipa_check::{CheckFault, open_ledger, rules_of_declaration};
 use kmipa_lives::{Proposed, propose_turns};
-use kmipa_record::{Declaration, Transcript, Turn, Witness};
+use kmipa_orders::{EARLY, Found, take_turn};
+use kmipa_record::{Call, Declaration, Transcript, Turn, Witness};
 use kmipa_store::Ledger;
 use std::alloc::Global;
 
@@ -61,7 +59,9 @@ fn proposed_turns(
     requires recorded { AreAllRecorded calls.now }
     ensures { IfErr result (λ fault. fault ≡ CheckFault.Memory) }
 {
-    let Some(order) = propose_turns(alloc, calls, declaration, is_open)? else {
+    let rules = rules_of_declaration(alloc, declaration)?;
+    let mut ledger = open_ledger(alloc, declaration)?;
+    let Some(order) = propose_turns(alloc, calls, declaration, rules, &mut ledger, is_open)? else {
         return Ok(None);
     };
     let rules = rules_of_declaration(alloc, declaration)?;

@@ -3,17 +3,17 @@
 ghost use Rattle.std.specs.Prelude.{◌≡◌, IfErr, IfOk, IfSome, OnOk};
 ghost use Rattle.kmipa_store.specs.Choices.{IsSound};
 
-use crate::guesses::payload_at;
 use crate::open_answers::{Opened, fresh_names, open_answer};
 use crate::sights::Sources;
 use kmipa_batch::{is_refused_message, is_unordered};
-use kmipa_check::{Call, CheckFault};
+use kmipa_check::CheckFault;
 use kmipa_lives::{Proposed, hidden_id};
 use kmipa_msgs::{
     Answer, Ask, BatchOption, ReadFault, Response, Rules, Status, is_wanted, read_payload,
 };
 use kmipa_ops::{Effect, Placeholder, Refusal, is_readable, row_of, take};
-use kmipa_record::{Fill, Turn};
+use kmipa_orders::payload_at;
+use kmipa_record::{Call, Fill, Turn};
 use kmipa_store::Ledger;
 use kmipa_ttlv::lend;
 use std::alloc::{AllocError, Global};

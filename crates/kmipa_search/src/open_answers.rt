@@ -3,16 +3,17 @@
 ghost use Rattle.std.specs.Prelude.{◌≡◌, IfErr, OnOk};
 ghost use Rattle.kmipa_store.specs.Choices.{IsSound};
 
-use crate::open::spelling_of;
 use crate::sights::{Sight, Sources, sight_of};
 use kmipa_attrs::ObjectType;
-use kmipa_check::{Call, CheckFault};
+use kmipa_check::CheckFault;
 use kmipa_lives::{Deed, answer_of};
 use kmipa_msgs::{
     Answer, Ask, BatchOption, Changed, Got, GotAttributes, KeyBlock, KeyFormat, Located, Payload,
     Response, Rules, Status, write_response,
 };
 use kmipa_ops::{Effect, Placeholder, Refusal, is_readable, row_of, take};
+use kmipa_orders::spelling_of;
+use kmipa_record::Call;
 use kmipa_store::Ledger;
 use std::alloc::{AllocError, Global};
 

@@ -5,22 +5,18 @@ ghost use Rattle.kmipa_record.specs.Declarations.{AreDeclared, declaration_of};
 ghost use Rattle.kmipa_record.specs.Marks.{AreRecorded};
 ghost use Rattle.kmipa_record.specs.Transcripts.{transcript_of};
 ghost use Rattle.kmipa_check.specs.Calls.{AreCalls, IsRecorded, call_of};
-ghost use Rattle.kmipa_search.specs.Candidates.{AreNotPlain};
-ghost use Rattle.kmipa_search.specs.Guessing.{AreAllRecorded};
-ghost use Rattle.kmipa_search.specs.Found.{SearchesIn};
+ghost use Rattle.kmipa_orders.specs.Candidates.{AreNotPlain};
+ghost use Rattle.kmipa_orders.specs.Guessing.{AreAllRecorded};
+ghost use Rattle.kmipa_orders.specs.Found.{SearchesIn};
 
 use crate::by_moments::{kept_steps, or_at_moments};
-use crate::by_object::or_refuted;
 use crate::by_turns::search_by_turns;
-use crate::check_laws::check_laws;
-use crate::found::Found;
-use crate::open::{Tables, find_turns};
-use crate::order::EARLY;
-use crate::plain::candidates;
 use crate::searching::{search_plain, try_witness};
-use crate::watch::{Unwatched, Watch};
-use kmipa_check::{Call, CheckFault, open_ledger, read_calls, rules_of_declaration};
-use kmipa_record::{Declaration, Transcript, Witness};
+use kmipa_check::{CheckFault, open_ledger, read_calls, rules_of_declaration};
+use kmipa_orders::{
+    EARLY, Found, Tables, Unwatched, Watch, candidates, check_laws, find_turns, or_refuted,
+};
+use kmipa_record::{Call, Declaration, Transcript, Witness};
 use std::alloc::Global;
 
 /// The same as `search_watched`, but of a transcript that isn't plain more is tried: calls without an end mark are taken, or left out, and the

@@ -7,31 +7,25 @@ ghost use Rattle.kmipa_record.specs.Transcripts.{transcript_of};
 ghost use Rattle.kmipa_record.specs.Witnesses.{IsWitness, witness_of};
 ghost use Rattle.kmipa_check.specs.Calls.{AreCalls, CallOf, IsRecorded, call_of};
 ghost use Rattle.kmipa_check.specs.Runs.{IsAccepted};
-ghost use Rattle.kmipa_search.specs.Candidates.{AreNotPlain, candidate_step};
-ghost use Rattle.kmipa_search.specs.Guessing.{AreRecordedCalls};
-ghost use Rattle.kmipa_search.specs.Plain.{ArePlain};
-ghost use Rattle.kmipa_search.specs.Progress.{AllReadable};
-ghost use Rattle.kmipa_search.specs.Found.{Finds, Searches, SearchesIn};
-ghost use Rattle.kmipa_search.specs.Confirming.{Confirms, IsTried, turns_at};
+ghost use Rattle.kmipa_orders.specs.Candidates.{AreNotPlain, candidate_step};
+ghost use Rattle.kmipa_orders.specs.Guessing.{AreRecordedCalls};
+ghost use Rattle.kmipa_orders.specs.Plain.{ArePlain};
+ghost use Rattle.kmipa_orders.specs.Progress.{AllReadable};
+ghost use Rattle.kmipa_orders.specs.Found.{Finds, Searches, SearchesIn};
+ghost use Rattle.kmipa_orders.specs.Confirming.{Confirms, IsTried, turns_at};
 
 use crate::accepted::{accepted_order, witness_at};
 use crate::by_lives::search_by_lives;
 use crate::by_moments::{kept_steps, or_at_moments};
-use crate::by_object::{or_refuted, search_by_object};
 use crate::by_turns::search_by_turns;
-use crate::candidate::Candidate;
-use crate::check_laws::check_laws;
-use crate::forthright::forthright_order;
-use crate::found::Found;
-use crate::guessing::guess_order;
-use crate::hopeless::search_hopeless;
-use crate::order::{EARLY, find_order};
-use crate::plain::{all_plain, candidates, every_candidate};
-use crate::watch::{Unwatched, Watch};
 use kmipa_check::{
-    Call, CheckFault, Verdict, check, check_calls, open_ledger, read_calls, rules_of_declaration,
+    CheckFault, Verdict, check, check_calls, open_ledger, read_calls, rules_of_declaration,
 };
-use kmipa_record::{Declaration, RecordKind, Transcript, Witness, write_witness};
+use kmipa_orders::{
+    Candidate, EARLY, Found, Unwatched, Watch, all_plain, candidates, check_laws, every_candidate,
+    find_order, forthright_order, guess_order, or_refuted, search_by_object, search_hopeless,
+};
+use kmipa_record::{Call, Declaration, RecordKind, Transcript, Witness, write_witness};
 use std::alloc::Global;
 
 /// Looks for a witness that a check accepts, trying at most `budget` calls.

@@ -5,13 +5,12 @@ ghost use Rattle.kmipa_object.specs.declared.life.Material.TheVariants.{Secret};
 ghost use Rattle.kmipa_object.specs.declared.life.SecretNo.{SecretNo};
 ghost use Rattle.kmipa_store.specs.Choices.{IsSound};
 
-use crate::stills::known_of;
 use kmipa_attrs::{AttrSet, Filter, ObjectType};
-use kmipa_check::Call;
 use kmipa_msgs::{Answer, Ask, Asked, Payload};
 use kmipa_object::{Object, State};
 use kmipa_ops::{Effect, Fit, Placeholder, matches, row_of};
-use kmipa_record::Declaration;
+use kmipa_orders::known_of;
+use kmipa_record::{Call, Declaration};
 use kmipa_store::Ledger;
 use std::alloc::{AllocError, Global};
 

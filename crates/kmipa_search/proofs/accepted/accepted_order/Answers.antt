@@ -5,8 +5,8 @@ use Rattle.kmipa_record.specs.Witnesses.{witness_of}
 use Rattle.kmipa_check.specs.Calls.{call_of}
 use Rattle.kmipa_check.specs.Verdicts.{TellsVerdict}
 use Rattle.kmipa_check.specs.declared.verdict.Verdict.{Verdict}
-use Rattle.kmipa_search.specs.Candidates.{candidate_step}
-use Rattle.kmipa_search.proofs.AnswerLemmas.{found_at_once}
+use Rattle.kmipa_orders.specs.Candidates.{candidate_step}
+use Rattle.kmipa_orders.proofs.AnswerLemmas.{found_at_once}
 use Rattle.kmipa_search.proofs.accepted.accepted_order.Goals as goal
 
 pub returns-in-Ok-Yes-clause-finds : goal.returns-in-Ok-Yes-clause-finds

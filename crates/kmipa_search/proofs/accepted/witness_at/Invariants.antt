@@ -1,7 +1,7 @@
 use Rattle.std.proofs.Common.{◌≡◌, map, take}
 use Rattle.kmipa_record.specs.Witnesses.{turn_of}
-use Rattle.kmipa_search.specs.Candidates.{candidate_step}
-use Rattle.kmipa_search.specs.Confirming.{turns_at}
+use Rattle.kmipa_orders.specs.Candidates.{candidate_step}
+use Rattle.kmipa_orders.specs.Confirming.{turns_at}
 use Rattle.kmipa_search.proofs.accepted.witness_at.Given as goal
 
 abbrev pub invariant-places : goal.invariant-places

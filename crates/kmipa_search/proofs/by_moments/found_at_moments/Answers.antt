@@ -1,11 +1,11 @@
 use Rattle.std.proofs.Common.{subst}
 use Rattle.kmipa_record.specs.Declarations.{declaration_of}
 use Rattle.kmipa_record.specs.Transcripts.{transcript_of}
-use Rattle.kmipa_search.specs.Found.{FindsIn}
-use Rattle.kmipa_search.specs.declared.found.Found.{Found}
-use Rattle.kmipa_search.specs.declared.found.Found.TheVariants.{Yes, Refuted, Impossible}
-use Rattle.kmipa_search.proofs.AnswerLemmas.{in_time}
-use Rattle.kmipa_search.proofs.MomentLemmas.{raised, raised_over}
+use Rattle.kmipa_orders.specs.Found.{FindsIn}
+use Rattle.kmipa_orders.specs.declared.found.Found.{Found}
+use Rattle.kmipa_orders.specs.declared.found.Found.TheVariants.{Yes, Refuted, Impossible}
+use Rattle.kmipa_orders.proofs.AnswerLemmas.{in_time}
+use Rattle.kmipa_orders.proofs.MomentLemmas.{raised, raised_over}
 use Rattle.kmipa_search.proofs.by_moments.found_at_moments.Goals as goal
 
 pub returns-in-Yes : goal.returns-in-Yes

@@ -1,7 +1,7 @@
 use Rattle.kmipa_record.specs.Declarations.{declaration_of}
 use Rattle.kmipa_record.specs.Transcripts.{transcript_of}
-use Rattle.kmipa_search.specs.declared.found.Found.TheVariants.{GaveUp}
-use Rattle.kmipa_search.proofs.MomentLemmas.{answered, raised}
+use Rattle.kmipa_orders.specs.declared.found.Found.TheVariants.{GaveUp}
+use Rattle.kmipa_orders.proofs.MomentLemmas.{answered, raised}
 use Rattle.kmipa_search.proofs.by_moments.gave_up.Goals as goal
 
 pub returns-then-grants_nothing : goal.returns-then-grants_nothing

@@ -2,9 +2,9 @@ use Rattle.std.proofs.Common.{Result, subst}
 use Rattle.kmipa_record.specs.Declarations.{declaration_of}
 use Rattle.kmipa_record.specs.Transcripts.{transcript_of}
 use Rattle.kmipa_check.specs.declared.fault.CheckFault.{CheckFault}
-use Rattle.kmipa_search.specs.Found.{SearchesIn}
-use Rattle.kmipa_search.specs.declared.found.Found.{Found}
-use Rattle.kmipa_search.proofs.MomentLemmas.{failed}
+use Rattle.kmipa_orders.specs.Found.{SearchesIn}
+use Rattle.kmipa_orders.specs.declared.found.Found.{Found}
+use Rattle.kmipa_orders.proofs.MomentLemmas.{failed}
 use Rattle.kmipa_search.proofs.by_moments.or_at_moments.Goals as goal
 
 pub returns-in-Ok : goal.returns-in-Ok

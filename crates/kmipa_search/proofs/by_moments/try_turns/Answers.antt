@@ -1,7 +1,7 @@
 use Rattle.std.proofs.Common.{arith}
 use Rattle.kmipa_record.specs.Declarations.{declaration_of}
 use Rattle.kmipa_record.specs.Transcripts.{transcript_of}
-use Rattle.kmipa_search.proofs.MomentLemmas.{gives_up}
+use Rattle.kmipa_orders.proofs.MomentLemmas.{gives_up}
 use Rattle.kmipa_search.proofs.by_moments.try_turns.Goals as goal
 
 pub returns-clause-finds : goal.returns-clause-finds

@@ -1,6 +1,6 @@
 use Rattle.std.proofs.Common.{List, Bor, sym, subst}
-use Rattle.kmipa_check.specs.declared.call.Call.{Call}
-use Rattle.kmipa_search.specs.Guessing.{AreAllRecorded}
+use Rattle.kmipa_record.specs.declared.call.Call.{Call}
+use Rattle.kmipa_orders.specs.Guessing.{AreAllRecorded}
 use Rattle.kmipa_search.proofs.open_searching.ends_early.Goals as goal
 
 pub find_turns-requires-clause-recorded : goal.find_turns-requires-clause-recorded

@@ -6,10 +6,10 @@ use Rattle.kmipa_record.specs.Transcripts.{transcript_of}
 use Rattle.kmipa_record.specs.Witnesses.{turn_of}
 use Rattle.kmipa_record.specs.declared.turn.Turn.{Turn}
 use Rattle.kmipa_check.specs.Calls.{call_of}
-use Rattle.kmipa_check.specs.declared.call.Call.{Call}
-use Rattle.kmipa_search.specs.Guessing.{AreAllRecorded}
-use Rattle.kmipa_search.proofs.AnswerLemmas.{in_time, over_in_time, tried}
-use Rattle.kmipa_search.proofs.DescentLemmas.{all_recorded}
+use Rattle.kmipa_record.specs.declared.call.Call.{Call}
+use Rattle.kmipa_orders.specs.Guessing.{AreAllRecorded}
+use Rattle.kmipa_orders.proofs.AnswerLemmas.{in_time, over_in_time, tried}
+use Rattle.kmipa_orders.proofs.DescentLemmas.{all_recorded}
 use Rattle.kmipa_search.proofs.open_searching.search_other.Goals as goal
 
 pub find_turns-requires-clause-recorded : goal.find_turns-requires-clause-recorded

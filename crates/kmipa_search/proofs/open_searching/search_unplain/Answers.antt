@@ -1,7 +1,7 @@
 use Rattle.kmipa_record.specs.Declarations.{declaration_of}
 use Rattle.kmipa_record.specs.Transcripts.{transcript_of}
-use Rattle.kmipa_search.proofs.AnswerLemmas.{some_in_time}
-use Rattle.kmipa_search.proofs.DescentLemmas.{all_recorded}
+use Rattle.kmipa_orders.proofs.AnswerLemmas.{some_in_time}
+use Rattle.kmipa_orders.proofs.DescentLemmas.{all_recorded}
 use Rattle.kmipa_search.proofs.open_searching.search_unplain.Goals as goal
 
 pub ends_early-requires-clause-recorded : goal.ends_early-requires-clause-recorded

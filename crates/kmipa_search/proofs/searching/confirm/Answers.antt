@@ -1,6 +1,6 @@
 use Rattle.kmipa_record.specs.Declarations.{declaration_of}
 use Rattle.kmipa_record.specs.Witnesses.{witness_of}
-use Rattle.kmipa_search.proofs.AnswerLemmas.{not_refused, reported_memory}
+use Rattle.kmipa_orders.proofs.AnswerLemmas.{not_refused, reported_memory}
 use Rattle.kmipa_search.proofs.searching.confirm.Goals as goal
 
 pub returns-in-Ok-No : goal.returns-in-Ok-No

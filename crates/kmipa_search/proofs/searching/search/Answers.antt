@@ -1,6 +1,6 @@
 use Rattle.kmipa_record.specs.Declarations.{declaration_of}
 use Rattle.kmipa_record.specs.Transcripts.{transcript_of}
-use Rattle.kmipa_search.proofs.AnswerLemmas.{with_all_time}
+use Rattle.kmipa_orders.proofs.AnswerLemmas.{with_all_time}
 use Rattle.kmipa_search.proofs.searching.search.Goals as goal
 
 pub returns : goal.returns

@@ -4,10 +4,10 @@ use Rattle.std.proofs.lemmas.List.{length-map}
 use Rattle.kmipa_record.specs.Declarations.{declaration_of}
 use Rattle.kmipa_record.specs.Transcripts.{transcript_of}
 use Rattle.kmipa_record.specs.Witnesses.{bare_turn, witness_of}
-use Rattle.kmipa_search.specs.Candidates.{candidate_step}
-use Rattle.kmipa_search.specs.Confirming.{turns_at}
-use Rattle.kmipa_search.specs.Taken.{step_at}
-use Rattle.kmipa_search.proofs.AnswerLemmas.{in_time, over_in_time, tried}
+use Rattle.kmipa_orders.specs.Candidates.{candidate_step}
+use Rattle.kmipa_orders.specs.Confirming.{turns_at}
+use Rattle.kmipa_orders.specs.Taken.{step_at}
+use Rattle.kmipa_orders.proofs.AnswerLemmas.{in_time, over_in_time, tried}
 use Rattle.kmipa_search.proofs.searching.search_ended.Goals as goal
 
 pub returns-in-Some-order : goal.returns-in-Some-order

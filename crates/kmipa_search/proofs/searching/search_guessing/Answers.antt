@@ -5,7 +5,7 @@ use Rattle.kmipa_record.specs.Declarations.{declaration_of}
 use Rattle.kmipa_record.specs.Transcripts.{transcript_of}
 use Rattle.kmipa_record.specs.Witnesses.{turn_of}
 use Rattle.kmipa_record.specs.declared.turn.Turn.{Turn}
-use Rattle.kmipa_search.proofs.AnswerLemmas.{in_time, over_in_time, tried}
+use Rattle.kmipa_orders.proofs.AnswerLemmas.{in_time, over_in_time, tried}
 use Rattle.kmipa_search.proofs.searching.search_guessing.Goals as goal
 
 pub returns-in-Some-turns : goal.returns-in-Some-turns

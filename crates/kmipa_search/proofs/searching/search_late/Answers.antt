@@ -1,7 +1,7 @@
 use Rattle.std.proofs.Common.{IfSome, Option, subst}
 use Rattle.kmipa_record.specs.Declarations.{declaration_of}
-use Rattle.kmipa_search.specs.Found.{Finds}
-use Rattle.kmipa_search.specs.declared.found.Found.{Found}
+use Rattle.kmipa_orders.specs.Found.{Finds}
+use Rattle.kmipa_orders.specs.declared.found.Found.{Found}
 use Rattle.kmipa_search.proofs.searching.search_late.Goals as goal
 
 pub returns-in-Some-clause-finds : goal.returns-in-Some-clause-finds

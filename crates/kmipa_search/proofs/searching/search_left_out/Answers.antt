@@ -1,7 +1,7 @@
 use Rattle.std.proofs.Common.{map}
 use Rattle.kmipa_record.specs.Transcripts.{transcript_of}
 use Rattle.kmipa_check.specs.Calls.{call_of}
-use Rattle.kmipa_search.proofs.GuessLemmas.{own_recorded}
+use Rattle.kmipa_orders.proofs.GuessLemmas.{own_recorded}
 use Rattle.kmipa_search.proofs.searching.search_left_out.Goals as goal
 
 pub all_plain-requires : goal.all_plain-requires

@@ -1,5 +1,5 @@
 use Rattle.kmipa_record.specs.Declarations.{declaration_of}
-use Rattle.kmipa_search.proofs.AnswerLemmas.{some_in_time}
+use Rattle.kmipa_orders.proofs.AnswerLemmas.{some_in_time}
 use Rattle.kmipa_search.proofs.searching.search_plain.Goals as goal
 
 pub returns-in-Some : goal.returns-in-Some

@@ -3,11 +3,11 @@ use Rattle.std.specs.Prelude.{MatchOption}
 use Rattle.std.specs.declared.alloc.Global.{Global}
 use Rattle.kmipa_record.specs.Transcripts.{transcript_of}
 use Rattle.kmipa_check.specs.Calls.{call_of}
-use Rattle.kmipa_search.specs.Candidates.{AreNotPlain, candidate_step}
-use Rattle.kmipa_search.specs.Plain.{ArePlain}
-use Rattle.kmipa_search.specs.declared.candidate.Candidate.{Candidate}
-use Rattle.kmipa_search.proofs.CandidateLemmas.{plain_own}
-use Rattle.kmipa_search.proofs.PlainLemmas.{plain_readable}
+use Rattle.kmipa_orders.specs.Candidates.{AreNotPlain, candidate_step}
+use Rattle.kmipa_orders.specs.Plain.{ArePlain}
+use Rattle.kmipa_orders.specs.declared.candidate.Candidate.{Candidate}
+use Rattle.kmipa_orders.proofs.CandidateLemmas.{plain_own}
+use Rattle.kmipa_orders.proofs.PlainLemmas.{plain_readable}
 use Rattle.kmipa_search.proofs.searching.search_stamped.Goals as goal
 
 pub search_plain-requires-clause-each : goal.search_plain-requires-clause-each

@@ -5,11 +5,11 @@ use Rattle.kmipa_record.specs.Declarations.{declaration_of}
 use Rattle.kmipa_record.specs.Witnesses.{witness_of}
 use Rattle.kmipa_msgs.specs.Messages.{rules_of}
 use Rattle.kmipa_check.specs.Calls.{call_of}
-use Rattle.kmipa_search.specs.Candidates.{candidate_step}
-use Rattle.kmipa_search.specs.Outcomes.{InTime}
-use Rattle.kmipa_search.specs.Progress.{ComesTo}
-use Rattle.kmipa_search.specs.Confirming.{turns_at}
-use Rattle.kmipa_search.proofs.AnswerLemmas.{opens, gave_up, found, in_time, over_in_time}
+use Rattle.kmipa_orders.specs.Candidates.{candidate_step}
+use Rattle.kmipa_orders.specs.Outcomes.{InTime}
+use Rattle.kmipa_orders.specs.Progress.{ComesTo}
+use Rattle.kmipa_orders.specs.Confirming.{turns_at}
+use Rattle.kmipa_orders.proofs.AnswerLemmas.{opens, gave_up, found, in_time, over_in_time}
 use Rattle.kmipa_search.proofs.searching.search_step_by_step.Goals as goal
 
 pub returns-in-Some-order : goal.returns-in-Some-order

@@ -1,6 +1,6 @@
 use Rattle.kmipa_record.specs.Declarations.{declaration_of}
 use Rattle.kmipa_record.specs.Transcripts.{transcript_of}
-use Rattle.kmipa_search.proofs.AnswerLemmas.{some_in_time}
+use Rattle.kmipa_orders.proofs.AnswerLemmas.{some_in_time}
 use Rattle.kmipa_search.proofs.searching.search_waiting.Goals as goal
 
 pub waiting_steps-requires-clause-each : goal.waiting_steps-requires-clause-each

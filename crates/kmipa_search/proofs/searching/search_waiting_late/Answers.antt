@@ -1,9 +1,9 @@
 use Rattle.std.proofs.Common.{IfSome, Option, subst}
 use Rattle.kmipa_record.specs.Declarations.{declaration_of}
 use Rattle.kmipa_record.specs.Transcripts.{transcript_of}
-use Rattle.kmipa_search.specs.Found.{Finds}
-use Rattle.kmipa_search.specs.declared.found.Found.{Found}
-use Rattle.kmipa_search.proofs.DescentLemmas.{all_recorded}
+use Rattle.kmipa_orders.specs.Found.{Finds}
+use Rattle.kmipa_orders.specs.declared.found.Found.{Found}
+use Rattle.kmipa_orders.proofs.DescentLemmas.{all_recorded}
 use Rattle.kmipa_search.proofs.searching.search_waiting_late.Goals as goal
 
 pub waiting_steps-requires-clause-each : goal.waiting_steps-requires-clause-each

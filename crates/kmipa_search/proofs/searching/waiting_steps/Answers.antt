@@ -1,6 +1,6 @@
 use Rattle.std.proofs.Common.{map}
 use Rattle.kmipa_check.specs.Calls.{call_of}
-use Rattle.kmipa_search.proofs.GuessLemmas.{own_recorded}
+use Rattle.kmipa_orders.proofs.GuessLemmas.{own_recorded}
 use Rattle.kmipa_search.proofs.searching.waiting_steps.Goals as goal
 
 pub guess_order-requires-clause-recorded : goal.guess_order-requires-clause-recorded

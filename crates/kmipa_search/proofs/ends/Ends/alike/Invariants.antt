@@ -1,4 +1,0 @@
-use Rattle.kmipa_search.proofs.ends.Ends.alike.Given as goal
-
-abbrev pub decreases-chain : goal.decreases-chain
-decreases-chain l = l.number

@@ -1,4 +1,0 @@
-use Rattle.kmipa_search.proofs.ends.Ends.has_from.Given as goal
-
-abbrev pub decreases-chain : goal.decreases-chain
-decreases-chain g l = l.number

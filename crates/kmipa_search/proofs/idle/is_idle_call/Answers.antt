@@ -1,7 +1,0 @@
-use Rattle.std.proofs.Common.{refl}
-use Rattle.kmipa_search.specs.Candidates.{candidate_step}
-use Rattle.kmipa_search.proofs.IdleLemmas.{idle_step}
-use Rattle.kmipa_search.proofs.idle.is_idle_call.Goals as goal
-
-pub returns : goal.returns
-returns c = λ is. idle_step (candidate_step c.args.call.now) refl (c.is_idle.ensures is)

@@ -1,5 +1,0 @@
-use Rattle.kmipa_search.proofs.EndLemmas.{equal_is_equal}
-use Rattle.kmipa_search.proofs.laws.equal_is_equal.Goals as goal
-
-pub returns : goal.returns
-returns c = equal_is_equal

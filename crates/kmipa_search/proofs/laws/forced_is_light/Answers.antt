@@ -1,5 +1,0 @@
-use Rattle.kmipa_search.proofs.AnswerLemmas.{forced_is_light_lem}
-use Rattle.kmipa_search.proofs.laws.forced_is_light.Goals as goal
-
-pub returns : goal.returns
-returns c = forced_is_light_lem

@@ -1,5 +1,0 @@
-use Rattle.kmipa_search.proofs.HopelessLemmas.{hopeless_explains_nothing_lem}
-use Rattle.kmipa_search.proofs.laws.hopeless_explains_nothing.Goals as goal
-
-pub returns : goal.returns
-returns c = hopeless_explains_nothing_lem c.check_laws.ensures

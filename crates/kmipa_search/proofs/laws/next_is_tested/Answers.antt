@@ -1,5 +1,0 @@
-use Rattle.kmipa_search.proofs.NextTestLemmas.{next_is_tested_lem}
-use Rattle.kmipa_search.proofs.laws.next_is_tested.Goals as goal
-
-pub returns : goal.returns
-returns c = next_is_tested_lem

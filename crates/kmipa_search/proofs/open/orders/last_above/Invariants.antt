@@ -1,8 +1,0 @@
-use Rattle.std.proofs.Common.{◌≤◌, length}
-use Rattle.kmipa_search.proofs.open.orders.last_above.Given as goal
-
-abbrev pub invariant-places : goal.invariant-places
-invariant-places l = l.place ≤ length l.places
-
-abbrev pub decreases-places : goal.decreases-places
-decreases-places l = l.place

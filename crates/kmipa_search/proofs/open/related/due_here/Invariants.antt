@@ -1,4 +1,0 @@
-use Rattle.kmipa_search.proofs.open.related.due_here.Given as goal
-
-abbrev pub decreases-due : goal.decreases-due
-decreases-due l = l.end

@@ -1,8 +1,0 @@
-use Rattle.std.proofs.Common.{arith}
-use Rattle.kmipa_search.proofs.StillLemmas.{all_names}
-use Rattle.kmipa_search.proofs.stills.are_same_names.Goals as goal
-
-pub returns : goal.returns
-returns c = λ t.
-    all_names c.args.names.now c.args.others.now (omega (arith, c.if-names-others.false))
-    (λ k a b z at there. c.names.invariant.same k a b (omega (arith, c.names-test.false)) at there)
