@@ -17,9 +17,9 @@ use Rattle.kmipa_ttlv.specs.declared.fault.TtlvFault.{TtlvFault}
 use Rattle.kmipa_ttlv.proofs.StreamLemmas.{Begins-more}
 use Rattle.kmipa_ttlv.proofs.ReadLemmas.{known_flaw_lem, outer_flaw_own}
 use Rattle.kmipa_runs.specs.Inputs.{bytes_of, joined, refused_line, TellsFirst, Writes, no_digits, no_memory}
-use Rattle.kmipa_runs.specs.Statuses.{IsSilent}
-use Rattle.kmipa_runs.specs.declared.status.Status.{Status}
-use Rattle.kmipa_runs.specs.declared.status.Status.TheVariants as status
+use Rattle.kmipa_jobs.specs.Statuses.{IsSilent}
+use Rattle.kmipa_jobs.specs.declared.status.Status.{Status}
+use Rattle.kmipa_jobs.specs.declared.status.Status.TheVariants as status
 use Rattle.kmipa_runs.proofs.AppendLemmas.{split}
 
 -- ---- an item that is spelled has few levels

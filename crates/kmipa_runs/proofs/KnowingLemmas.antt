@@ -10,10 +10,10 @@ use Rattle.kmipa_record.specs.declared.fault.RecordKind.TheVariants.{Ttlv, Heade
 use Rattle.kmipa_record.specs.declared.head.Head.{Head}
 use Rattle.kmipa_runs.specs.Knowing.{Known, KnowsSeals}
 use Rattle.kmipa_runs.specs.Lines.{PrintsFault, fault_status, record_status}
-use Rattle.kmipa_runs.specs.Statuses.{IsSilent}
+use Rattle.kmipa_jobs.specs.Statuses.{IsSilent}
 use Rattle.kmipa_runs.specs.declared.lines.Lines.{Lines}
-use Rattle.kmipa_runs.specs.declared.status.Status.{Status}
-use Rattle.kmipa_runs.specs.declared.status.Status.TheVariants as status
+use Rattle.kmipa_jobs.specs.declared.status.Status.{Status}
+use Rattle.kmipa_jobs.specs.declared.status.Status.TheVariants as status
 use Rattle.kmipa_runs.proofs.YesLemmas.{fault_printed}
 
 -- what is known is known at each status

@@ -18,11 +18,11 @@ use Rattle.kmipa_check.specs.declared.verdict.Verdict.TheVariants as verdict
 use Rattle.kmipa_stream.specs.Counting.{HaveTally}
 use Rattle.kmipa_stream.specs.Streams.{TellsDate}
 use Rattle.kmipa_stream.specs.declared.tally.Tally.{Tally}
-use Rattle.kmipa_runs.specs.Statuses.{IsSilent}
+use Rattle.kmipa_jobs.specs.Statuses.{IsSilent}
 use Rattle.kmipa_runs.specs.Lines.{AreYesLines, FitsStatus, IsDated, PrintsDate, PrintsFault, PrintsOutcome, PrintsStamped, PrintsVerdict, TalliesRecorded, device_line, fault_status, fault_text, no_line, record_status, record_text, tally_text, yes_line}
 use Rattle.kmipa_runs.specs.declared.lines.Lines.{Lines}
-use Rattle.kmipa_runs.specs.declared.status.Status.{Status}
-use Rattle.kmipa_runs.specs.declared.status.Status.TheVariants as status
+use Rattle.kmipa_jobs.specs.declared.status.Status.{Status}
+use Rattle.kmipa_jobs.specs.declared.status.Status.TheVariants as status
 
 -- ---- a verdict and a moment
 

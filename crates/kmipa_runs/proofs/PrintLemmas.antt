@@ -12,7 +12,7 @@ use Rattle.kmipa_ttlv.proofs.SpelledLemmas.{listed_items}
 use Rattle.kmipa_ttlv.proofs.StreamLemmas.{item_read}
 use Rattle.kmipa_runs.specs.Inputs.{AreShown}
 use Rattle.kmipa_runs.specs.Shown.{ShowsItems}
-use Rattle.kmipa_runs.specs.declared.options.ShowOptions.{ShowOptions}
+use Rattle.kmipa_jobs.specs.declared.options.ShowOptions.{ShowOptions}
 use Rattle.kmipa_runs.proofs.InputLemmas.{levels}
 
 -- ---- one item more is held

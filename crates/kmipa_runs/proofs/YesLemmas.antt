@@ -21,11 +21,11 @@ use Rattle.kmipa_check.specs.declared.verdict.Verdict.{Verdict}
 use Rattle.kmipa_check.specs.declared.verdict.Verdict.TheVariants as verdict
 use Rattle.kmipa_check.proofs.AcceptedLemmas.{accepted_is_yes_lem}
 use Rattle.kmipa_check.proofs.AcceptedAuditLemmas.{accepted_audit_is_yes_lem}
-use Rattle.kmipa_runs.specs.Statuses.{IsSilent}
+use Rattle.kmipa_jobs.specs.Statuses.{IsSilent}
 use Rattle.kmipa_runs.specs.Lines.{PrintsFault, PrintsOutcome, SaysYes, check_status, check_text, record_status, record_text}
 use Rattle.kmipa_runs.specs.declared.lines.Lines.{Lines}
-use Rattle.kmipa_runs.specs.declared.status.Status.{Status}
-use Rattle.kmipa_runs.specs.declared.status.Status.TheVariants as status
+use Rattle.kmipa_jobs.specs.declared.status.Status.{Status}
+use Rattle.kmipa_jobs.specs.declared.status.Status.TheVariants as status
 
 -- ---- what is said of accepted bytes
 

@@ -14,10 +14,10 @@ use Rattle.kmipa_record.specs.declared.fault.RecordKind.{RecordKind}
 use Rattle.kmipa_record.specs.declared.fault.RecordKind.TheVariants as record_kind
 use Rattle.kmipa_runs.specs.Lines.{line, device_line, record_status, record_text}
 use Rattle.kmipa_runs.specs.Shown.{ShowsItems}
-use Rattle.kmipa_runs.specs.Statuses.{IsSilent}
-use Rattle.kmipa_runs.specs.declared.options.ShowOptions.{ShowOptions}
-use Rattle.kmipa_runs.specs.declared.status.Status.{Status}
-use Rattle.kmipa_runs.specs.declared.status.Status.TheVariants as status
+use Rattle.kmipa_jobs.specs.Statuses.{IsSilent}
+use Rattle.kmipa_jobs.specs.declared.options.ShowOptions.{ShowOptions}
+use Rattle.kmipa_jobs.specs.declared.status.Status.{Status}
+use Rattle.kmipa_jobs.specs.declared.status.Status.TheVariants as status
 
 -- a fault of items as a fault of a file of them
 abbrev pub as_record : FaultKind → RecordKind

@@ -3,8 +3,8 @@ use Rattle.std.specs.Prelude.{ℕ, List, Option}
 use Rattle.kmipa_record.specs.Marks.{MarkOf}
 use Rattle.kmipa_record.specs.TranscriptReading.{IsKnownBy}
 use Rattle.kmipa_record.specs.declared.head.Head.{Head}
-use Rattle.kmipa_runs.specs.declared.status.Status.{Status}
-use Rattle.kmipa_runs.specs.declared.status.Status.TheVariants as status
+use Rattle.kmipa_jobs.specs.declared.status.Status.{Status}
+use Rattle.kmipa_jobs.specs.declared.status.Status.TheVariants as status
 
 -- the bytes are a transcript whose seals are all right, up to this head; or one that bears none
 abbrev pub Known : List ℕ → Option Head → Type 0

@@ -4,6 +4,4 @@ pub mod Knowing
 pub mod Lines
 pub mod Notes
 pub mod Sealing
-pub mod Searches
 pub mod Shown
-pub mod Statuses

@@ -29,9 +29,9 @@ use Rattle.kmipa_stream.specs.Counting.{HaveTally, TalliesSo}
 use Rattle.kmipa_stream.specs.Streams.{WasAnsweredAt}
 use Rattle.kmipa_stream.specs.declared.tally.Tally.{Tally}
 use Rattle.kmipa_runs.specs.Dates.{TellsSecond}
-use Rattle.kmipa_runs.specs.Statuses.{IsSilent}
-use Rattle.kmipa_runs.specs.declared.status.Status.{Status}
-use Rattle.kmipa_runs.specs.declared.status.Status.TheVariants as status
+use Rattle.kmipa_jobs.specs.Statuses.{IsSilent}
+use Rattle.kmipa_jobs.specs.declared.status.Status.{Status}
+use Rattle.kmipa_jobs.specs.declared.status.Status.TheVariants as status
 
 -- pieces of text on one line, with its line feed
 abbrev pub line : List (List ℕ) → List ℕ

@@ -12,7 +12,7 @@ use Rattle.kmipa_ttlv.specs.declared.view.ViewValue.TheVariants.{Structure, Inte
 use Rattle.kmipa_attrs.specs.Tags.{request_message, response_message, tag_name_of}
 use Rattle.kmipa_runs.specs.Dates.{HasDate, ReadsAsSecond}
 use Rattle.kmipa_runs.specs.Notes.{number_name_of}
-use Rattle.kmipa_runs.specs.declared.options.ShowOptions.{ShowOptions}
+use Rattle.kmipa_jobs.specs.declared.options.ShowOptions.{ShowOptions}
 
 -- a byte of a text: as it is where it is printable ASCII but a quote or a backslash, else in hexadecimal
 abbrev pub escaped : ℕ → List ℕ

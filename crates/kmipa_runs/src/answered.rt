@@ -1,6 +1,6 @@
 //! What a run answers beside what it appends.
 
-use crate::status::Status;
+use kmipa_jobs::Status;
 use kmipa_record::Head;
 
 /// The status of a run, and of one that judged a sealed transcript the head of it.

@@ -3,11 +3,11 @@
 ghost use Rattle.std.specs.Prelude.{◌≡◌, ◌⊎◌, IfOk, string_bytes};
 ghost use Rattle.std.specs.Io.{StartsWith, appended_bytes};
 ghost use Rattle.kmipa_runs.specs.Inputs.{flaw_status, flaw_text};
-ghost use Rattle.kmipa_runs.specs.Statuses.{IsSilent};
+ghost use Rattle.kmipa_jobs.specs.Statuses.{IsSilent};
 
 use crate::lines::{Lines, record_lines};
 use crate::reporting::append;
-use crate::status::Status;
+use kmipa_jobs::Status;
 use kmipa_record::{RecordFault, RecordKind};
 use kmipa_ttlv::{FaultKind, TtlvFault};
 use std::alloc::{AllocError, Global};

@@ -1,4 +1,4 @@
-//! The runs of the program, over inputs and outputs that are handed in: each appends its lines and answers its status.
+//! What `show` and `write` do, over inputs and outputs that are handed in, and the lines of verdicts, faults and seals.
 #![tactic(auto)]
 
 mod answered;
@@ -12,18 +12,13 @@ mod laws;
 mod lines;
 mod message;
 mod notes;
-mod options;
 mod pieces;
 mod printer;
 mod quoting;
 mod reporting;
-mod runs;
 mod sealing;
-mod searched;
-mod searching;
 mod showing;
 mod shown;
-mod status;
 mod text;
 mod values;
 mod writing;
@@ -32,19 +27,14 @@ pub use answered::Answered;
 pub use dates::date_text;
 pub use known::read_known_records;
 pub use laws::items_have_no_fault;
-pub use lines::{Lines, fault_lines, message_name, verdict_lines, yes_text};
+pub use lines::{Lines, fault_lines, message_name, tally_text, verdict_lines, yes_text};
 pub use notes::{
     algorithm_name, name_type_name, number_name, object_type_name, operation_name,
     result_reason_name,
 };
-pub use options::ShowOptions;
 pub use printer::{Printer, Unprinted};
 pub use quoting::{escaped_text, quoted_text};
-pub use reporting::{append, report};
-pub use runs::check_run;
+pub use reporting::{append, report, report_judged};
 pub use sealing::{has_seal, head_line, other_head_line, other_head_object, read_seal, torn_line};
-pub use searched::Searched;
-pub use searching::{search_records, search_run, searched_lines, tell_searched, tell_witness};
 pub use showing::show_run;
-pub use status::Status;
 pub use writing::write_run;

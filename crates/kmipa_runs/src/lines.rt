@@ -7,8 +7,8 @@ ghost use Rattle.kmipa_record.specs.Witnesses.{witness_of};
 ghost use Rattle.kmipa_runs.specs.Lines.{PrintsVerdict, PrintsStamped, PrintsDate, PrintsFault, no_line, record_text, record_status, check_text, check_status, side_name, tally_line, tally_text, yes_text};
 
 use crate::dates::date_text;
-use crate::status::Status;
 use kmipa_check::{AuditFault, CheckFault, Refused, Side, Verdict, stamp_of};
+use kmipa_jobs::Status;
 use kmipa_record::{Declaration, RecordFault, RecordKind, Transcript, Witness};
 use kmipa_stream::{Tally, tally_of_records};
 use std::alloc::{AllocError, Global};

@@ -5,12 +5,12 @@ ghost use Rattle.std.specs.Io.{StartsWith, appended_bytes};
 ghost use Rattle.kmipa_record.specs.Declarations.{declaration_of};
 ghost use Rattle.kmipa_record.specs.Transcripts.{transcript_of};
 ghost use Rattle.kmipa_record.specs.Witnesses.{witness_of};
-ghost use Rattle.kmipa_runs.specs.Statuses.{IsSilent};
+ghost use Rattle.kmipa_jobs.specs.Statuses.{IsSilent};
 ghost use Rattle.kmipa_runs.specs.Lines.{PrintsStamped, PrintsVerdict};
 
 use crate::lines::{Lines, stamped_lines, verdict_lines};
-use crate::status::Status;
 use kmipa_check::Verdict;
+use kmipa_jobs::Status;
 use kmipa_record::{Declaration, Transcript, Witness};
 use kmipa_stream::Judged;
 use std::alloc::{AllocError, Global};

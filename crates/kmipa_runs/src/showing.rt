@@ -6,15 +6,14 @@ ghost use Rattle.kmipa_ttlv.specs.Input.{came_of, is_ended, is_failed, IsFileOf}
 ghost use Rattle.kmipa_ttlv.specs.Items.{AreItems};
 ghost use Rattle.kmipa_ttlv.specs.Tree.{Tree};
 ghost use Rattle.kmipa_runs.specs.Inputs.{flaw_status, flaw_text, AreShown, PrintsShown};
-ghost use Rattle.kmipa_runs.specs.Statuses.{IsSilent};
+ghost use Rattle.kmipa_jobs.specs.Statuses.{IsSilent};
 
 use crate::flaws::tell_flaw;
 use crate::holding::hold_items;
-use crate::options::ShowOptions;
 use crate::pieces::Pieces;
 use crate::printer::{Printer, Unprinted};
 use crate::shown::push_items;
-use crate::status::Status;
+use kmipa_jobs::{ShowOptions, Status};
 use kmipa_ttlv::{Children, Input, TtlvFault};
 use std::alloc::Global;
 use std::io::Read;

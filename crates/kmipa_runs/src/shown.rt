@@ -11,10 +11,10 @@ ghost use Rattle.kmipa_ttlv.specs.Written.{depth, depths};
 ghost use Rattle.kmipa_runs.specs.Shown.{IsPlain, ShowsBelow, ShowsItem, ShowsItems, ShowsLine};
 
 use crate::message::message_of;
-use crate::options::ShowOptions;
 use crate::printer::{Printer, Unprinted};
 use crate::values::{push_kind, push_note, push_value};
 use kmipa_attrs::tag_name;
+use kmipa_jobs::ShowOptions;
 use kmipa_ttlv::{Children, Tag, View, ViewValue};
 
 /// Prints the lines of an item with so many levels above it, and of the items in it. After an error a part

@@ -8,15 +8,15 @@ ghost use Rattle.kmipa_ttlv.specs.Spelling.{Spells};
 ghost use Rattle.kmipa_ttlv.specs.Tree.{Tree};
 ghost use Rattle.kmipa_ttlv.specs.Written.{spelling};
 ghost use Rattle.kmipa_runs.specs.Inputs.{AreWritten, HasOther, MakesOrTells, TellsFirst, Writes, refused_line};
-ghost use Rattle.kmipa_runs.specs.Statuses.{IsSilent};
+ghost use Rattle.kmipa_jobs.specs.Statuses.{IsSilent};
 
 use crate::digits::read_digits;
 use crate::flaws::tell_flaw;
 use crate::lines::Lines;
 use crate::reporting::append;
-use crate::status::Status;
 use crate::text::read_text;
 use hex::FromHexError;
+use kmipa_jobs::Status;
 use kmipa_ttlv::{FaultKind, Input, TtlvFault, decode, encode};
 use std::alloc::{AllocError, Global};
 use std::io::Read;
