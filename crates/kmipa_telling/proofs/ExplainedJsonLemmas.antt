@@ -14,15 +14,15 @@ use Rattle.kmipa_check.specs.declared.auditing.AuditFault.{AuditFault}
 use Rattle.kmipa_check.specs.declared.auditing.AuditFault.TheVariants as audit
 use Rattle.kmipa_check.specs.declared.verdict.Verdict.{Verdict}
 use Rattle.kmipa_check.specs.declared.verdict.Verdict.TheVariants as verdict
-use Rattle.kmipa_runs.specs.Statuses.{IsSilent}
+use Rattle.kmipa_jobs.specs.Statuses.{IsSilent}
 use Rattle.kmipa_runs.specs.declared.lines.Lines.{Lines}
-use Rattle.kmipa_runs.specs.declared.status.Status.{Status}
-use Rattle.kmipa_runs.specs.declared.status.Status.TheVariants as status
+use Rattle.kmipa_jobs.specs.declared.status.Status.{Status}
+use Rattle.kmipa_jobs.specs.declared.status.Status.TheVariants as status
 use Rattle.kmipa_telling.specs.ExplainedJson.{ExplainsInputs, PrintsExplainedJson}
 use Rattle.kmipa_telling.specs.Judging.{AreEnded, WhereRead}
 use Rattle.kmipa_telling.specs.Telling.{TellsVerdict}
 use Rattle.kmipa_telling.specs.declared.explained.Explained.{Explained}
-use Rattle.kmipa_telling.specs.declared.fault_told.FaultTold.{FaultTold}
+use Rattle.kmipa_telling.specs.declared.meaning.FaultTold.{FaultTold}
 use Rattle.kmipa_telling.proofs.ExplainingLemmas.{yes_explained}
 use Rattle.kmipa_telling.proofs.JsonLemmas.{fault_not_done, silent_not_done}
 use Rattle.serde_json.specs.Data.{Members}

@@ -21,16 +21,16 @@ use Rattle.kmipa_check.specs.declared.verdict.Verdict.{Verdict}
 use Rattle.kmipa_check.specs.declared.verdict.Verdict.TheVariants as verdict
 use Rattle.kmipa_explain.specs.declared.explanation.Explanation.{Explanation}
 use Rattle.kmipa_runs.specs.Lines.{FitsStatus, PrintsFault, PrintsVerdict, check_status, check_text}
-use Rattle.kmipa_runs.specs.Statuses.{IsSilent}
+use Rattle.kmipa_jobs.specs.Statuses.{IsSilent}
 use Rattle.kmipa_runs.specs.declared.lines.Lines.{Lines}
-use Rattle.kmipa_runs.specs.declared.status.Status.{Status}
-use Rattle.kmipa_runs.specs.declared.status.Status.TheVariants as status
+use Rattle.kmipa_jobs.specs.declared.status.Status.{Status}
+use Rattle.kmipa_jobs.specs.declared.status.Status.TheVariants as status
 use Rattle.kmipa_runs.proofs.LineLemmas.{done_is_yes, record_fits}
 use Rattle.kmipa_telling.specs.Explaining.{AreExplained, AuditsExplained, IsExplained, PrintsExplained, PrintsMore, TellsRecords}
 use Rattle.kmipa_telling.specs.FaultsTold.{IsAuditMeaning, IsCheckFaultOf, IsCheckMeaning, IsCheckToldOf, IsFaultOf, IsFaultToldOf, PrintsFaultMeaning, bare_fault}
 use Rattle.kmipa_telling.specs.declared.explained.Explained.{Explained}
-use Rattle.kmipa_telling.specs.declared.fault_told.FaultMeaning.{FaultMeaning}
-use Rattle.kmipa_telling.specs.declared.fault_told.FaultTold.{FaultTold}
+use Rattle.kmipa_telling.specs.declared.meaning.FaultMeaning.{FaultMeaning}
+use Rattle.kmipa_telling.specs.declared.meaning.FaultTold.{FaultTold}
 use Rattle.kmipa_telling.proofs.JsonLemmas.{fault_not_done}
 
 -- ---- status 0

@@ -1,16 +1,12 @@
 mod ClaimLemmas
-mod DecidingLemmas
-mod DeepestLemmas
-mod ExplainedJsonLemmas
+pub mod ExplainedJsonLemmas
 mod ExplainedLemmas
-mod ExplainingLemmas
-mod GivingUpLemmas
+pub mod ExplainingLemmas
 mod HeldLemmas
-mod JsonLemmas
-mod JsonSearchLemmas
-mod JudgingLemmas
-mod ListLemmas
+pub mod JsonLemmas
+pub mod JudgingLemmas
+pub mod ListLemmas
 mod PhraseLemmas
-mod SealLemmas
+pub mod SealLemmas
 mod StoryLemmas
 mod TellingLemmas

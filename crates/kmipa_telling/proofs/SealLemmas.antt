@@ -14,17 +14,15 @@ use Rattle.kmipa_check.specs.declared.auditing.AuditRecords.{AuditRecords}
 use Rattle.kmipa_runs.proofs.KnowingLemmas.{knows}
 use Rattle.kmipa_runs.specs.Knowing.{Known, KnowsSeals}
 use Rattle.kmipa_runs.specs.Lines.{fault_status}
-use Rattle.kmipa_runs.specs.Statuses.{IsSilent}
-use Rattle.kmipa_runs.specs.declared.status.Status.{Status}
-use Rattle.kmipa_runs.specs.declared.status.Status.TheVariants as status
+use Rattle.kmipa_jobs.specs.Statuses.{IsSilent}
+use Rattle.kmipa_jobs.specs.declared.status.Status.{Status}
+use Rattle.kmipa_jobs.specs.declared.status.Status.TheVariants as status
 use Rattle.kmipa_telling.specs.ExplainedJson.{PrintsExplainedJson, explained_head}
 use Rattle.kmipa_telling.specs.FaultsTold.{PrintsFaultTold}
-use Rattle.kmipa_telling.specs.JsonSearches.{PrintsJsonSearch}
 use Rattle.kmipa_telling.specs.Seals.{KnowsJudged}
 use Rattle.kmipa_telling.specs.Telling.{PrintsJson, audit_head}
 use Rattle.kmipa_telling.specs.declared.explained.Explained.{Explained}
-use Rattle.kmipa_telling.specs.declared.fault_told.FaultTold.{FaultTold}
-use Rattle.kmipa_telling.specs.declared.judged.Judged.{Judged}
+use Rattle.kmipa_telling.specs.declared.meaning.FaultTold.{FaultTold}
 use Rattle.kmipa_telling.proofs.JsonLemmas.{fault_ends}
 
 -- ---- what is read
@@ -89,9 +87,3 @@ pub check_knows : {R : Type 0} (torn : Option ℕ) (t d w : Input R) (outcome : 
 check_knows torn t d w (Ok explained) said lines head is known reported = known_as (came_of t) said head explained.records.transcript.head is known
 check_knows torn t d w (Err fault) said lines head is known (inl (k, told, judged, (without, tells, more), e)) = fault_knows (came_of t) fault.fault said head tells.0
 check_knows torn t d w (Err fault) said lines head is known (inr silent) = silent_knows (came_of t) said lines head silent
-
-pub search_knows : {R : Type 0} (torn : Option ℕ) (t d : Input R) (outcome : Result Judged FaultTold) (said : Status) (lines made : List ℕ) (head : Option Head)
-    → KnowsJudged outcome (came_of t) head → PrintsJsonSearch torn t d outcome said lines made ⊎ (IsSilent said lines × (made ≡ [])) → KnowsSeals (came_of t) said head
-search_knows torn t d (Ok judged) said lines made head known reported = knows (came_of t) said head known
-search_knows torn t d (Err fault) said lines made head known (inl (none, (k, told, judged, (without, tells, more), e))) = fault_knows (came_of t) fault.fault said head tells.0
-search_knows torn t d (Err fault) said lines made head known (inr silent) = silent_knows (came_of t) said lines head silent.0

@@ -9,7 +9,7 @@ use Rattle.kmipa_check.specs.declared.verdict.Verdict.{Verdict}
 use Rattle.kmipa_check.specs.declared.verdict.Verdict.TheVariants as verdict
 use Rattle.kmipa_stream.specs.declared.tally.Tally.{Tally}
 use Rattle.kmipa_runs.specs.Lines.{TalliesRecorded}
-use Rattle.kmipa_runs.specs.declared.status.Status.TheVariants as status
+use Rattle.kmipa_jobs.specs.declared.status.Status.TheVariants as status
 use Rattle.kmipa_telling.specs.Telling.{TellsDate, TellsVerdict, refused_members, told_tally, verdict_named}
 use Rattle.serde_json.specs.Data.{Members}
 

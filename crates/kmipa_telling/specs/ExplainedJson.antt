@@ -8,7 +8,7 @@ use Rattle.kmipa_record.specs.Declarations.{declaration_of}
 use Rattle.kmipa_record.specs.Transcripts.{transcript_of}
 use Rattle.kmipa_record.specs.Witnesses.{witness_of}
 use Rattle.kmipa_record.specs.declared.head.Head.{Head}
-use Rattle.kmipa_runs.specs.declared.status.Status.{Status}
+use Rattle.kmipa_jobs.specs.declared.status.Status.{Status}
 use Rattle.kmipa_telling.specs.Claims.{TellsMeaning}
 use Rattle.kmipa_telling.specs.Explaining.{AuditsExplained}
 use Rattle.kmipa_telling.specs.FaultsTold.{TellsFaultTold, by_fault}
@@ -16,7 +16,7 @@ use Rattle.kmipa_telling.specs.Judging.{AreEnded, WhereRead}
 use Rattle.kmipa_telling.specs.Seals.{KnowsJudged}
 use Rattle.kmipa_telling.specs.Telling.{TellsVerdict, check_files, opened}
 use Rattle.kmipa_telling.specs.declared.explained.Explained.{Explained}
-use Rattle.kmipa_telling.specs.declared.fault_told.FaultTold.{FaultTold}
+use Rattle.kmipa_telling.specs.declared.meaning.FaultTold.{FaultTold}
 
 -- what a check with explanations answers of three inputs, whatever follows what came
 abbrev pub ExplainsInputs : {R : Type 0} → Input R → Input R → Input R → Result Explained FaultTold → Type 0

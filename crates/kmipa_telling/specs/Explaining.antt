@@ -12,11 +12,11 @@ use Rattle.kmipa_check.specs.declared.verdict.Verdict.TheVariants as verdict
 use Rattle.kmipa_explain.specs.Explanations.{Explains}
 use Rattle.kmipa_explain.specs.declared.explanation.Explanation.{Explanation}
 use Rattle.kmipa_runs.specs.Lines.{PrintsVerdict}
-use Rattle.kmipa_runs.specs.declared.status.Status.{Status}
+use Rattle.kmipa_jobs.specs.declared.status.Status.{Status}
 use Rattle.kmipa_telling.specs.Explained.{PrintsExplanation}
 use Rattle.kmipa_telling.specs.FaultsTold.{IsAuditMeaning, PrintsFaultTold}
 use Rattle.kmipa_telling.specs.declared.explained.Explained.{Explained}
-use Rattle.kmipa_telling.specs.declared.fault_told.FaultTold.{FaultTold}
+use Rattle.kmipa_telling.specs.declared.meaning.FaultTold.{FaultTold}
 
 -- ---- what is explained
 

@@ -13,15 +13,15 @@ use Rattle.kmipa_check.specs.declared.fault.CheckFault.{CheckFault}
 use Rattle.kmipa_check.specs.declared.fault.CheckFault.TheVariants as check
 use Rattle.kmipa_outside.specs.Explaining.{ExplainsOutside}
 use Rattle.kmipa_runs.specs.Lines.{PrintsFault}
-use Rattle.kmipa_runs.specs.declared.status.Status.{Status}
+use Rattle.kmipa_jobs.specs.declared.status.Status.{Status}
 use Rattle.kmipa_telling.specs.OutsideClaims.{outside_members}
 use Rattle.kmipa_telling.specs.OutsideLines.{outside_lines}
 use Rattle.kmipa_telling.specs.Telling.{TellsFault}
 use Rattle.kmipa_telling.specs.UnfitClaims.{unfit_members}
 use Rattle.kmipa_telling.specs.UnfitLines.{unfit_lines}
-use Rattle.kmipa_telling.specs.declared.fault_told.FaultMeaning.{FaultMeaning}
-use Rattle.kmipa_telling.specs.declared.fault_told.FaultMeaning.TheVariants.{Outside, Witness}
-use Rattle.kmipa_telling.specs.declared.fault_told.FaultTold.{FaultTold}
+use Rattle.kmipa_telling.specs.declared.meaning.FaultMeaning.{FaultMeaning}
+use Rattle.kmipa_telling.specs.declared.meaning.FaultMeaning.TheVariants.{Outside, Witness}
+use Rattle.kmipa_telling.specs.declared.meaning.FaultTold.{FaultTold}
 use Rattle.kmipa_unfit.specs.Explanations.{ExplainsWitness, HasFault}
 
 -- a fault of which its line is all that is told

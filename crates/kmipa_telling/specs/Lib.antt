@@ -2,9 +2,6 @@ pub mod AttributeCauses
 pub mod AttributeClaims
 pub mod Causes
 pub mod Claims
-pub mod Deciding
-pub mod Deepest
-pub mod DeepestClaims
 pub mod EchoCauses
 pub mod EchoClaims
 pub mod EventClaims
@@ -14,9 +11,7 @@ pub mod Explaining
 pub mod FailingCauses
 pub mod FailingClaims
 pub mod FaultsTold
-pub mod GivingUp
 pub mod Held
-pub mod JsonSearches
 pub mod Judging
 pub mod ListingCauses
 pub mod ListingClaims

@@ -31,8 +31,8 @@ use Rattle.kmipa_check.specs.declared.verdict.Verdict.TheVariants as verdict
 use Rattle.kmipa_runs.specs.Dates.{TellsSecond}
 use Rattle.kmipa_stream.specs.declared.tally.Tally.{Tally}
 use Rattle.kmipa_runs.specs.Lines.{TalliesRecorded, side_name, fault_status}
-use Rattle.kmipa_runs.specs.declared.status.Status.{Status}
-use Rattle.kmipa_runs.specs.declared.status.Status.TheVariants as status
+use Rattle.kmipa_jobs.specs.declared.status.Status.{Status}
+use Rattle.kmipa_jobs.specs.declared.status.Status.TheVariants as status
 use Rattle.kmipa_telling.specs.Seals.{KnowsJudged, sealed_members}
 
 -- what stands for the line's first word

@@ -7,8 +7,8 @@ ghost use Rattle.kmipa_record.specs.Transcripts.{transcript_of};
 ghost use Rattle.kmipa_check.specs.Audits.{AreRecords};
 ghost use Rattle.kmipa_telling.specs.Explaining.{AuditsExplained, IsExplained, TellsRecords};
 
-use crate::fault_told::FaultTold;
 use crate::faults::check_fault_told;
+use crate::meaning::FaultTold;
 use kmipa_check::{AuditFault, AuditRecords, CheckFault, Grants, Verdict, check};
 use kmipa_explain::{Explanation, explain};
 use std::alloc::Global;

@@ -6,15 +6,16 @@ ghost use Rattle.kmipa_ttlv.specs.Input.{came_of, is_ended, is_failed, IsFileOf}
 ghost use Rattle.kmipa_check.specs.Audits.{AreAccepted};
 ghost use Rattle.kmipa_runs.specs.Knowing.{Known, KnowsSeals};
 ghost use Rattle.kmipa_runs.specs.Lines.{AreYesLines, FitsStatus};
-ghost use Rattle.kmipa_runs.specs.Statuses.{IsSilent};
+ghost use Rattle.kmipa_jobs.specs.Statuses.{IsSilent};
 ghost use Rattle.kmipa_telling.specs.Explaining.{AuditsExplained, PrintsExplained, PrintsMore};
 
 use crate::explained::{Explained, explain_records};
 use crate::explanation::explanation_text;
-use crate::fault_told::FaultTold;
 use crate::faults::fault_told_lines;
+use crate::meaning::FaultTold;
 use kmipa_explain::Explanation;
-use kmipa_runs::{Answered, Lines, Status, append, read_known_records, verdict_lines};
+use kmipa_jobs::Status;
+use kmipa_runs::{Answered, Lines, append, read_known_records, verdict_lines};
 use kmipa_ttlv::Input;
 use std::alloc::{AllocError, Global};
 use std::io::Read;

@@ -8,17 +8,18 @@ ghost use Rattle.kmipa_record.specs.Transcripts.{transcript_of};
 ghost use Rattle.kmipa_record.specs.Witnesses.{witness_of};
 ghost use Rattle.kmipa_telling.specs.FaultsTold.{IsCheckFaultOf, IsCheckToldOf, IsFaultOf, IsFaultToldOf, PrintsFaultMeaning, PrintsFaultTold, TellsFaultMeaning, TellsFaultTold};
 
-use crate::fault_told::{FaultMeaning, FaultTold};
+use crate::meaning::{FaultMeaning, FaultTold};
 use crate::outside_claims::outside_object;
 use crate::outside_lines::outside_text;
 use crate::telling::tell_fault;
 use crate::unfit_claims::unfit_object;
 use crate::unfit_lines::unfit_text;
 use kmipa_check::{AuditFault, CheckFault, Grants};
+use kmipa_jobs::Status;
 use kmipa_json::JsonObject;
 use kmipa_outside::explain_outside;
 use kmipa_record::{Transcript, Witness};
-use kmipa_runs::{Lines, Status, fault_lines};
+use kmipa_runs::{Lines, fault_lines};
 use kmipa_unfit::explain_witness;
 use std::alloc::{AllocError, Global};
 

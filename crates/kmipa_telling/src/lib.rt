@@ -1,4 +1,4 @@
-//! What a no and a giving up mean, told as lines; and verdicts, searches and explanations, told as JSON.
+//! What a no means, told as lines; and verdicts and explanations, told as JSON.
 #![tactic(auto)]
 
 mod attribute_causes;
@@ -6,9 +6,6 @@ mod attribute_claims;
 mod bytes;
 mod causes;
 mod claims;
-mod deciding;
-mod deepest;
-mod deepest_claims;
 mod echo_causes;
 mod echo_claims;
 mod event_claims;
@@ -18,18 +15,15 @@ mod explaining;
 mod explanation;
 mod failing_causes;
 mod failing_claims;
-mod fault_told;
 mod faults;
-mod giving_up;
 mod held;
 mod json;
-mod json_search;
-mod judged;
 mod judging;
 mod listing_causes;
 mod listing_claims;
 mod making_causes;
 mod making_claims;
+mod meaning;
 mod naming;
 mod naming_claims;
 mod outside_claims;
@@ -43,17 +37,18 @@ mod sources;
 mod state_causes;
 mod state_claims;
 mod stories;
-mod stuck;
 mod telling;
-mod telling_found;
 mod unfit_claims;
 mod unfit_lines;
 mod unfit_phrases;
 
+pub use claims::calls_list;
 pub use explained::Explained;
 pub use explained_json::explain_json;
 pub use explaining::explain_run;
-pub use fault_told::{FaultMeaning, FaultTold};
-pub use giving_up::explain_search_run;
-pub use json::{VERSION, check_json};
-pub use json_search::search_json;
+pub use faults::{fault_told, fault_told_lines, tell_fault_told};
+pub use json::{VERSION, check_json, open_object, read_object, transcript_object};
+pub use meaning::{FaultMeaning, FaultTold};
+pub use phrases::{MOST, calls_text, more_line};
+pub use reading::read_held;
+pub use telling::{named, tell_tally};

@@ -9,10 +9,11 @@ ghost use Rattle.kmipa_runs.specs.Lines.{check_status, record_status, side_name}
 ghost use Rattle.kmipa_telling.specs.Telling.{TellsDate, TellsFault, TellsVerdict, aside_members, check_members, named_members, outside_members, record_members, refused_members, tally_members, told_tally, verdict_named};
 
 use kmipa_check::{AuditFault, CheckFault, Refused, Verdict, stamp_of};
+use kmipa_jobs::Status;
 use kmipa_json::JsonObject;
 use kmipa_msgs::Outside;
 use kmipa_record::{Declaration, RecordFault, RecordKind, Transcript, Witness};
-use kmipa_runs::{Status, date_text, message_name};
+use kmipa_runs::{date_text, message_name};
 use kmipa_stream::{Tally, tally_of_records};
 use std::alloc::{AllocError, Global};
 

@@ -4,7 +4,7 @@ use Rattle.kmipa_ttlv.proofs.ReadLemmas.{itself}
 use Rattle.kmipa_runs.specs.Knowing.{Known}
 use Rattle.kmipa_telling.specs.ExplainedJson.{ExplainsInputs}
 use Rattle.kmipa_telling.specs.FaultsTold.{by_fault}
-use Rattle.kmipa_telling.specs.declared.fault_told.FaultTold.{FaultTold}
+use Rattle.kmipa_telling.specs.declared.meaning.FaultTold.{FaultTold}
 use Rattle.kmipa_telling.proofs.ExplainingLemmas.{bare_reading}
 use Rattle.kmipa_check.specs.declared.auditing.AuditFault.{AuditFault}
 use Rattle.kmipa_check.specs.declared.auditing.AuditRecords.{AuditRecords}

@@ -3,7 +3,7 @@ use Rattle.kmipa_ttlv.specs.Input.{came_of, is_failed}
 use Rattle.kmipa_record.specs.Transcripts.{transcript_of}
 use Rattle.kmipa_telling.proofs.ExplainingLemmas.{bare_reading}
 use Rattle.kmipa_telling.specs.Explaining.{AuditsExplained}
-use Rattle.kmipa_telling.specs.declared.fault_told.FaultTold.{FaultTold}
+use Rattle.kmipa_telling.specs.declared.meaning.FaultTold.{FaultTold}
 use Rattle.kmipa_telling.proofs.SealLemmas.{known_explained}
 use Rattle.kmipa_telling.proofs.explaining.explain_inputs.Goals as goal
 
