@@ -26,13 +26,13 @@ use Rattle.kmipa_check.specs.declared.verdict.Verdict.{Verdict}
 use Rattle.kmipa_check.specs.declared.verdict.Verdict.TheVariants as verdict
 use Rattle.kmipa_check.proofs.JoinLemmas.{joined_begun_lem, recorded_begun_lem}
 use Rattle.kmipa_check.proofs.SegmentLemmas.{accepted_behind_lem, segments_join_lem}
-use Rattle.kmipa_search.specs.declared.found.Found.{Found}
-use Rattle.kmipa_search.specs.declared.found.Found.TheVariants.{Yes, GaveUp, Refuted, Impossible, OutOfTime}
+use Rattle.kmipa_orders.specs.declared.found.Found.{Found}
+use Rattle.kmipa_orders.specs.declared.found.Found.TheVariants.{Yes, GaveUp, Refuted, Impossible, OutOfTime}
 use Rattle.kmipa_runs.specs.Lines.{PrintsVerdict}
-use Rattle.kmipa_runs.specs.Searches.{found_status, SearchStops}
-use Rattle.kmipa_runs.specs.Statuses.{IsSilent}
-use Rattle.kmipa_runs.specs.declared.status.Status.{Status}
-use Rattle.kmipa_runs.specs.declared.status.Status.TheVariants as status
+use Rattle.kmipa_searches.specs.Searches.{found_status, SearchStops}
+use Rattle.kmipa_jobs.specs.Statuses.{IsSilent}
+use Rattle.kmipa_jobs.specs.declared.status.Status.{Status}
+use Rattle.kmipa_jobs.specs.declared.status.Status.TheVariants as status
 use Rattle.kmipa_runs.proofs.LineLemmas.{done_is_yes}
 use Rattle.kmipa_links.specs.declared.links.Links.{Links}
 use Rattle.kmipa_segments.specs.Chains.{AreChained, AreCheckedNext, AreReadNext, AreSearchedNext, AreUncheckedNext, AreUnsearchedNext, found_witness, GoesOn, GoesOnBy, GoesOnSomehow, IsJoined, IsSomeDeclared, IsUnreadNext, LeavesWhereFound, NextFails, SearchesNext}

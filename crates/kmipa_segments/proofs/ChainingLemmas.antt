@@ -15,9 +15,9 @@ use Rattle.kmipa_check.specs.declared.segment.Left.{Left}
 use Rattle.kmipa_check.proofs.JoinLemmas.{at_back, at_front, ordered}
 use Rattle.kmipa_links.specs.Links.{SegmentOf, ShareNoCall}
 use Rattle.kmipa_links.specs.Linking.{HaveLinked, LinksOn}
-use Rattle.kmipa_runs.specs.Statuses.{IsSilent}
-use Rattle.kmipa_runs.specs.declared.status.Status.{Status}
-use Rattle.kmipa_runs.specs.declared.status.Status.TheVariants as status
+use Rattle.kmipa_jobs.specs.Statuses.{IsSilent}
+use Rattle.kmipa_jobs.specs.declared.status.Status.{Status}
+use Rattle.kmipa_jobs.specs.declared.status.Status.TheVariants as status
 use Rattle.kmipa_segments.specs.Chains.{AreChained, AreReadNext, GoesOn, GoesOnBy, GoesOnSomehow, IsNamed, Keeps, PrintsJudged, PrintsUnjudged, TellsJudged}
 use Rattle.kmipa_segments.specs.Chaining.{AreParts, AreNextOf, EndsChain, IsChain, IsKept, IsKeptNext, IsNextOf, IsPart, PartOf, SegmentFiles, marks_of, segments_of, turns_of}
 use Rattle.kmipa_segments.specs.Leaving.{TellsLeft}

@@ -4,9 +4,9 @@ use Rattle.std.specs.Prelude.{IfOk, IsOkAnd, string_bytes}
 use Rattle.std.specs.declared.alloc.AllocError.{AllocError}
 use Rattle.kmipa_check.specs.declared.auditing.AuditFault.{AuditFault}
 use Rattle.kmipa_runs.specs.Lines.{PrintsFault}
-use Rattle.kmipa_runs.specs.Statuses.{IsSilent}
+use Rattle.kmipa_jobs.specs.Statuses.{IsSilent}
 use Rattle.kmipa_runs.specs.declared.lines.Lines.{Lines}
-use Rattle.kmipa_runs.specs.declared.status.Status.{Status}
+use Rattle.kmipa_jobs.specs.declared.status.Status.{Status}
 use Rattle.kmipa_segments.specs.Leaving.{PrintsSegment}
 use Rattle.kmipa_segments.specs.SegmentSearches.{PrintsSegmentSearch}
 

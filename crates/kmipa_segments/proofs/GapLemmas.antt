@@ -9,9 +9,9 @@ use Rattle.kmipa_links.specs.Links.{SealsOf, SegmentOf, Linked, first_seals, las
 use Rattle.kmipa_links.specs.Linking.{HasSeals}
 use Rattle.kmipa_links.proofs.LinkLemmas.{sealed_from_first}
 use Rattle.kmipa_links.specs.declared.gap.Gap.{Gap}
-use Rattle.kmipa_runs.specs.Statuses.{IsSilent}
+use Rattle.kmipa_jobs.specs.Statuses.{IsSilent}
 use Rattle.kmipa_runs.specs.declared.lines.Lines.{Lines}
-use Rattle.kmipa_runs.specs.declared.status.Status.{Status}
+use Rattle.kmipa_jobs.specs.declared.status.Status.{Status}
 use Rattle.kmipa_segments.specs.Gaps.{PrintsGap, head_text, sealed_text}
 
 -- by the number of the first and the head of the last

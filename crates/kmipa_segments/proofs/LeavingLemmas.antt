@@ -28,10 +28,10 @@ use Rattle.kmipa_check.specs.declared.verdict.Verdict.{Verdict}
 use Rattle.kmipa_check.specs.declared.verdict.Verdict.TheVariants as verdict
 use Rattle.kmipa_stream.specs.declared.tally.Tally.{Tally}
 use Rattle.kmipa_runs.specs.Lines.{PrintsVerdict, TalliesRecorded, yes_text}
-use Rattle.kmipa_runs.specs.Statuses.{IsSilent}
+use Rattle.kmipa_jobs.specs.Statuses.{IsSilent}
 use Rattle.kmipa_runs.specs.declared.lines.Lines.{Lines}
-use Rattle.kmipa_runs.specs.declared.status.Status.{Status}
-use Rattle.kmipa_runs.specs.declared.status.Status.TheVariants as status
+use Rattle.kmipa_jobs.specs.declared.status.Status.{Status}
+use Rattle.kmipa_jobs.specs.declared.status.Status.TheVariants as status
 use Rattle.kmipa_runs.proofs.AppendLemmas.{since}
 use Rattle.kmipa_runs.proofs.LineLemmas.{done_is_yes}
 use Rattle.kmipa_segments.specs.Leaving.{AreChecked, IsTooLongAt, Lead, LeadsAsAsked, NoneTooLongBefore, PrintsLeft, PrintsUnwritten, RecordsLead, TellsChecked, TellsLeft, TellsSegment, entry_line, if_asked, made_whole, not_made, otherwise, too_long, unwritable_line}

@@ -37,17 +37,17 @@ use Rattle.kmipa_check.proofs.PlainLemmas.{its_moment, plain_call_has_one_step_l
 use Rattle.kmipa_check.proofs.RecordedLemmas.{same_calls}
 use Rattle.kmipa_check.proofs.SegmentLemmas.{accepted_since_lem}
 use Rattle.kmipa_check.proofs.WholeOrderLemmas.{number_of, same_call}
-use Rattle.kmipa_search.specs.Found.{Finds, FindsIn, HasDecided, stopped, enough, one_by_one}
-use Rattle.kmipa_search.specs.Plain.{ArePlain, IsPlainStep}
-use Rattle.kmipa_search.specs.declared.found.Found.{Found}
-use Rattle.kmipa_search.specs.declared.found.Found.TheVariants.{Yes, GaveUp, Refuted, Impossible, OutOfTime}
-use Rattle.kmipa_search.proofs.PlainLemmas.{one_plain_step, plain_from}
+use Rattle.kmipa_orders.specs.Found.{Finds, FindsIn, HasDecided, stopped, enough, one_by_one}
+use Rattle.kmipa_orders.specs.Plain.{ArePlain, IsPlainStep}
+use Rattle.kmipa_orders.specs.declared.found.Found.{Found}
+use Rattle.kmipa_orders.specs.declared.found.Found.TheVariants.{Yes, GaveUp, Refuted, Impossible, OutOfTime}
+use Rattle.kmipa_orders.proofs.PlainLemmas.{one_plain_step, plain_from}
 use Rattle.kmipa_stream.specs.declared.tally.Tally.{Tally}
-use Rattle.kmipa_runs.specs.Searches.{found_status, AreUnsearched, Makes, PrintsSearch, SearchStops, TalliesFound, searched_text}
-use Rattle.kmipa_runs.specs.Statuses.{IsSilent}
-use Rattle.kmipa_runs.specs.declared.searched.Searched.{Searched}
-use Rattle.kmipa_runs.specs.declared.status.Status.{Status}
-use Rattle.kmipa_runs.specs.declared.status.Status.TheVariants as status
+use Rattle.kmipa_searches.specs.Searches.{found_status, AreUnsearched, Makes, PrintsSearch, SearchStops, TalliesFound, searched_text}
+use Rattle.kmipa_jobs.specs.Statuses.{IsSilent}
+use Rattle.kmipa_searches.specs.declared.searched.Searched.{Searched}
+use Rattle.kmipa_jobs.specs.declared.status.Status.{Status}
+use Rattle.kmipa_jobs.specs.declared.status.Status.TheVariants as status
 use Rattle.kmipa_segments.specs.Leaving.{Lead, LeadsAsAsked, TellsLeft, if_asked}
 use Rattle.kmipa_segments.specs.SegmentSearches.{AreSearchedSince, FindsSince, HasDecidedSince, HasEndedBelow, by_search, ended_below, IsExplainedSince, MakesWhenDone, SearchesSegment, TellsBoth, TellsFound}
 use Rattle.kmipa_segments.specs.declared.segment_search.FoundSegment.{FoundSegment}

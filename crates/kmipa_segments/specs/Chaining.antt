@@ -9,8 +9,8 @@ use Rattle.kmipa_check.specs.Since.{IsAcceptedSince}
 use Rattle.kmipa_check.specs.declared.segment.Left.{Left}
 use Rattle.kmipa_links.specs.Links.{Linked, SegmentOf}
 use Rattle.kmipa_links.specs.Linking.{HaveLinked, IsOf}
-use Rattle.kmipa_runs.specs.declared.status.Status.{Status}
-use Rattle.kmipa_runs.specs.declared.status.Status.TheVariants as status
+use Rattle.kmipa_jobs.specs.declared.status.Status.{Status}
+use Rattle.kmipa_jobs.specs.declared.status.Status.TheVariants as status
 use Rattle.kmipa_segments.specs.Chains.{AreChained, GoesOnBy}
 use Rattle.kmipa_segments.specs.Leaving.{PrintsLeft, TellsLeft}
 use Rattle.kmipa_segments.specs.declared.chain.Chain.{Chain}

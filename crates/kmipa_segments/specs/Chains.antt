@@ -17,12 +17,12 @@ use Rattle.kmipa_check.specs.declared.fault.CheckFault.{CheckFault}
 use Rattle.kmipa_check.specs.declared.segment.Left.{Left}
 use Rattle.kmipa_links.specs.Linking.{HasGap, LinksOn}
 use Rattle.kmipa_links.specs.declared.links.Links.{Links}
-use Rattle.kmipa_search.specs.declared.found.Found.{Found}
-use Rattle.kmipa_search.specs.declared.found.Found.TheVariants.{Yes, GaveUp, Refuted, Impossible, OutOfTime}
+use Rattle.kmipa_orders.specs.declared.found.Found.{Found}
+use Rattle.kmipa_orders.specs.declared.found.Found.TheVariants.{Yes, GaveUp, Refuted, Impossible, OutOfTime}
 use Rattle.kmipa_runs.specs.Lines.{PrintsFault, PrintsVerdict}
-use Rattle.kmipa_runs.specs.Searches.{found_status, searched_text, SearchStops}
-use Rattle.kmipa_runs.specs.Statuses.{IsSilent}
-use Rattle.kmipa_runs.specs.declared.status.Status.{Status}
+use Rattle.kmipa_searches.specs.Searches.{found_status, searched_text, SearchStops}
+use Rattle.kmipa_jobs.specs.Statuses.{IsSilent}
+use Rattle.kmipa_jobs.specs.declared.status.Status.{Status}
 use Rattle.kmipa_segments.specs.Gaps.{PrintsGap}
 use Rattle.kmipa_segments.specs.SegmentSearches.{SearchesSegment}
 use Rattle.kmipa_segments.specs.declared.chain.Chain.{Chain}

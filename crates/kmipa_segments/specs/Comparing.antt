@@ -12,8 +12,8 @@ use Rattle.kmipa_ops.specs.Objects.{clash, same_type}
 use Rattle.kmipa_check.specs.declared.auditing.AuditFault.TheVariants as audit
 use Rattle.kmipa_runs.specs.Lines.{line, PrintsFault}
 use Rattle.kmipa_runs.specs.Shown.{quoted}
-use Rattle.kmipa_runs.specs.declared.status.Status.{Status}
-use Rattle.kmipa_runs.specs.declared.status.Status.TheVariants as status
+use Rattle.kmipa_jobs.specs.declared.status.Status.{Status}
+use Rattle.kmipa_jobs.specs.declared.status.Status.TheVariants as status
 use Rattle.kmipa_segments.specs.declared.parts.Part.{Part}
 use Rattle.kmipa_segments.specs.declared.parts.Part.TheVariants as part
 use Rattle.kmipa_segments.specs.declared.comparing.Difference.{Difference}

@@ -11,8 +11,8 @@ use Rattle.kmipa_links.specs.declared.gap.Gap.{Gap}
 use Rattle.kmipa_links.specs.declared.gap.Gap.TheVariants.{Call, Recording, Segment, Previous, NoSeals, Seals}
 use Rattle.kmipa_runs.specs.Lines.{line}
 use Rattle.kmipa_runs.specs.Shown.{escaped}
-use Rattle.kmipa_runs.specs.declared.status.Status.{Status}
-use Rattle.kmipa_runs.specs.declared.status.Status.TheVariants as status
+use Rattle.kmipa_jobs.specs.declared.status.Status.{Status}
+use Rattle.kmipa_jobs.specs.declared.status.Status.TheVariants as status
 
 -- a recording's name, with each byte as it is or escaped
 abbrev pub bare : List ℕ → List ℕ

@@ -13,8 +13,8 @@ use Rattle.kmipa_links.specs.Linking.{HasGap, LinksOn}
 use Rattle.kmipa_links.specs.declared.gap.Gap.{Gap}
 use Rattle.kmipa_links.specs.declared.links.Links.{Links}
 use Rattle.kmipa_runs.specs.Lines.{PrintsFault}
-use Rattle.kmipa_runs.specs.Statuses.{IsSilent}
-use Rattle.kmipa_runs.specs.declared.status.Status.{Status}
+use Rattle.kmipa_jobs.specs.Statuses.{IsSilent}
+use Rattle.kmipa_jobs.specs.declared.status.Status.{Status}
 use Rattle.kmipa_segments.specs.Gaps.{PrintsGap}
 use Rattle.kmipa_segments.specs.declared.linking.Link.{Link}
 use Rattle.kmipa_segments.specs.declared.linking.Link.TheVariants as link

@@ -13,14 +13,14 @@ use Rattle.kmipa_check.specs.Since.{AreSince, IsAcceptedSince}
 use Rattle.kmipa_check.specs.declared.auditing.AuditFault.{AuditFault}
 use Rattle.kmipa_check.specs.declared.fault.CheckFault.{CheckFault}
 use Rattle.kmipa_check.specs.declared.segment.Left.{Left}
-use Rattle.kmipa_search.specs.Found.{Finds, FindsIn, HasDecided}
-use Rattle.kmipa_search.specs.declared.found.Found.{Found}
-use Rattle.kmipa_search.specs.declared.found.Found.TheVariants.{Yes, GaveUp, Refuted, Impossible, OutOfTime}
+use Rattle.kmipa_orders.specs.Found.{Finds, FindsIn, HasDecided}
+use Rattle.kmipa_orders.specs.declared.found.Found.{Found}
+use Rattle.kmipa_orders.specs.declared.found.Found.TheVariants.{Yes, GaveUp, Refuted, Impossible, OutOfTime}
 use Rattle.kmipa_runs.specs.Lines.{PrintsFault}
-use Rattle.kmipa_runs.specs.Searches.{IsForcedTold, Makes, PrintsSearch, SearchFails, SearchStops, TalliesFound, searched_text}
-use Rattle.kmipa_runs.specs.declared.searched.Searched.{Searched}
-use Rattle.kmipa_runs.specs.declared.status.Status.{Status}
-use Rattle.kmipa_runs.specs.declared.status.Status.TheVariants as status
+use Rattle.kmipa_searches.specs.Searches.{IsForcedTold, Makes, PrintsSearch, SearchFails, SearchStops, TalliesFound, searched_text}
+use Rattle.kmipa_searches.specs.declared.searched.Searched.{Searched}
+use Rattle.kmipa_jobs.specs.declared.status.Status.{Status}
+use Rattle.kmipa_jobs.specs.declared.status.Status.TheVariants as status
 use Rattle.kmipa_segments.specs.Leaving.{if_asked, TellsLeft}
 use Rattle.kmipa_segments.specs.declared.segment_search.FoundSegment.{FoundSegment}
 use Rattle.kmipa_segments.specs.declared.segment_search.KnownSegment.{KnownSegment}

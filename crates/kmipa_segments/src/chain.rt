@@ -10,10 +10,12 @@ use crate::asked::NextSearch;
 use crate::next::{NextSegment, Unjudged, check_next_inputs, search_next_input};
 use crate::segment_search::{FoundSegment, found_witness};
 use kmipa_check::{AuditFault, Left};
+use kmipa_jobs::Status;
 use kmipa_links::Links;
+use kmipa_orders::Watch;
 use kmipa_record::{RecordFault, Witness, read_declaration};
-use kmipa_runs::{Status, append, fault_lines, report, searched_lines};
-use kmipa_search::Watch;
+use kmipa_runs::{append, fault_lines, report};
+use kmipa_searches::searched_lines;
 use kmipa_store::Journal;
 use kmipa_ttlv::Input;
 use std::alloc::Global;
@@ -45,7 +47,7 @@ impl Chain {
     ghost use Rattle.kmipa_record.specs.Witnesses.{witness_of};
     ghost use Rattle.kmipa_check.specs.Left.{LeavesAtYes};
     ghost use Rattle.kmipa_runs.specs.Lines.{PrintsFault, PrintsVerdict};
-    ghost use Rattle.kmipa_runs.specs.Statuses.{IsSilent};
+    ghost use Rattle.kmipa_jobs.specs.Statuses.{IsSilent};
     ghost use Rattle.kmipa_links.specs.Linking.{HaveLinked};
     ghost use Rattle.kmipa_segments.specs.Chains.{AreChained, ChecksNext, found_witness, GoesOnBy, GoesOnSomehow, IsSomeDeclared, LeavesWhereFound, SearchesNext, TellsChecked, TellsJudged, TellsSearched};
 

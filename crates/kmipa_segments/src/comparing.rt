@@ -8,8 +8,9 @@ ghost use Rattle.kmipa_segments.specs.Comparing.{AreCompared, AreKnown, AreTold,
 
 use crate::parts::{Part, part_apart};
 use kmipa_check::AuditFault;
+use kmipa_jobs::Status;
 use kmipa_record::{Declaration, Entry, RecordFault, RecordKind, read_declaration};
-use kmipa_runs::{Lines, Status, fault_lines, quoted_text};
+use kmipa_runs::{Lines, fault_lines, quoted_text};
 use kmipa_ttlv::Input;
 use std::alloc::{AllocError, Global};
 use std::collections::BTreeMap;

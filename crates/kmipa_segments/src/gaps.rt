@@ -7,9 +7,10 @@ ghost use Rattle.kmipa_links.specs.Links.{SegmentOf, first_seals, last_seals};
 ghost use Rattle.kmipa_links.specs.Linking.{HaveLinked};
 ghost use Rattle.kmipa_segments.specs.Gaps.{PrintsGap, gap_text, head_text, sealed_text, span_text};
 
+use kmipa_jobs::Status;
 use kmipa_links::{Gap, Links};
 use kmipa_record::Head;
-use kmipa_runs::{Lines, Status, escaped_text};
+use kmipa_runs::{Lines, escaped_text};
 use std::alloc::{AllocError, Global};
 
 /// The line of a gap.

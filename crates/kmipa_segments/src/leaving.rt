@@ -10,14 +10,15 @@ ghost use Rattle.kmipa_record.specs.Witnesses.{witness_of};
 ghost use Rattle.kmipa_runs.specs.Knowing.{Known, KnowsSeals};
 ghost use Rattle.kmipa_stream.specs.declared.tally.Tally.{Tally};
 ghost use Rattle.kmipa_runs.specs.Lines.{PrintsVerdict, TalliesRecorded, yes_text};
-ghost use Rattle.kmipa_runs.specs.Statuses.{IsSilent};
+ghost use Rattle.kmipa_jobs.specs.Statuses.{IsSilent};
 ghost use Rattle.kmipa_segments.specs.Leaving.{ChecksSegment, IsMomentText, IsTooLongAt, LeadsAsAsked, NoneTooLongBefore, PrintsLeft, PrintsSegment, PrintsUnwritten, TellsLeft, TellsSegment, TellsChecked, entry_line, unwritable_line};
 
 use crate::asked::{CheckOutput, SegmentAsked};
 use kmipa_check::{AuditFault, AuditRecords, Checked, Left, check_segment};
+use kmipa_jobs::Status;
 use kmipa_record::{Declaration, Entry, RecordKind, is_too_long, write_declaration};
 use kmipa_runs::{
-    Answered, Lines, Status, append, date_text, fault_lines, read_known_records, report, yes_text,
+    Answered, Lines, append, date_text, fault_lines, read_known_records, report, yes_text,
 };
 use kmipa_stream::tally_of_records;
 use kmipa_ttlv::Input;

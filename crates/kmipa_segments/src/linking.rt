@@ -7,9 +7,10 @@ ghost use Rattle.kmipa_segments.specs.Linking.{IsOfBytes, LinksSo, TellsUnread};
 
 use crate::gaps::gap_lines;
 use kmipa_check::AuditFault;
+use kmipa_jobs::Status;
 use kmipa_links::{Links, Unlinked, link_segment};
 use kmipa_record::{RecordFault, RecordKind};
-use kmipa_runs::{Status, append, fault_lines};
+use kmipa_runs::{append, fault_lines};
 use kmipa_ttlv::Input;
 use std::alloc::Global;
 use std::io::Read;

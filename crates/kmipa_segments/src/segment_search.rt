@@ -6,11 +6,11 @@ ghost use Rattle.kmipa_ttlv.specs.Input.{came_of, is_ended, is_failed, IsFileOf}
 ghost use Rattle.kmipa_record.specs.Declarations.{AreDeclared, declaration_of};
 ghost use Rattle.kmipa_record.specs.Marks.{AreRecorded};
 ghost use Rattle.kmipa_record.specs.Transcripts.{transcript_of};
-ghost use Rattle.kmipa_search.specs.Found.{Finds};
-ghost use Rattle.kmipa_search.specs.declared.found.Found.TheVariants.{Yes};
+ghost use Rattle.kmipa_orders.specs.Found.{Finds};
+ghost use Rattle.kmipa_orders.specs.declared.found.Found.TheVariants.{Yes};
 ghost use Rattle.kmipa_runs.specs.Knowing.{Known, KnowsSeals};
-ghost use Rattle.kmipa_runs.specs.Searches.{IsForcedTold, Makes, TalliesFound};
-ghost use Rattle.kmipa_runs.specs.Statuses.{IsSilent};
+ghost use Rattle.kmipa_searches.specs.Searches.{IsForcedTold, Makes, TalliesFound};
+ghost use Rattle.kmipa_jobs.specs.Statuses.{IsSilent};
 ghost use Rattle.kmipa_segments.specs.Chains.{found_witness};
 ghost use Rattle.kmipa_segments.specs.Leaving.{LeadsAsAsked, if_asked};
 ghost use Rattle.kmipa_segments.specs.SegmentSearches.{PrintsSegmentSearch, SearchesSegment, SearchesSince, TellsBoth, TellsFound, found_alone};
@@ -18,14 +18,14 @@ ghost use Rattle.kmipa_segments.specs.SegmentSearches.{PrintsSegmentSearch, Sear
 use crate::asked::{SearchAsked, SearchOutput};
 use crate::leaving::tell_left;
 use kmipa_check::{AuditFault, CheckFault, Left, check_segment};
+use kmipa_jobs::Status;
+use kmipa_orders::{Found, Watch};
 use kmipa_record::{
     Declaration, Head, RecordFault, Transcript, Witness, read_declaration, read_transcript,
     write_witness,
 };
-use kmipa_runs::{
-    Answered, Searched, Status, append, fault_lines, search_records, searched_lines, tell_searched,
-};
-use kmipa_search::{Found, Watch};
+use kmipa_runs::{Answered, append, fault_lines};
+use kmipa_searches::{Searched, search_records, searched_lines, tell_searched};
 use kmipa_stream::Tally;
 use kmipa_ttlv::Input;
 use std::alloc::Global;

@@ -1,6 +1,6 @@
 use Rattle.std.proofs.Common.{◌≡◌, List, ℕ, Ok, rules}
 use Rattle.kmipa_ttlv.specs.Input.{came_of}
-use Rattle.kmipa_runs.specs.declared.status.Status.{Status}
+use Rattle.kmipa_jobs.specs.declared.status.Status.{Status}
 use Rattle.kmipa_segments.specs.Chains.{TellsChecked}
 use Rattle.kmipa_segments.specs.declared.next.NextSegment.{NextSegment}
 use Rattle.kmipa_segments.proofs.ChainingLemmas.{judged_printed, kept_next_by, next_by, unjudged_printed, was_done}

@@ -1,5 +1,5 @@
 use Rattle.std.proofs.Common.{List, ℕ, inl, subst, sym}
-use Rattle.kmipa_runs.specs.declared.status.Status.{Status}
+use Rattle.kmipa_jobs.specs.declared.status.Status.{Status}
 use Rattle.kmipa_segments.specs.Comparing.{PrintsCompared}
 use Rattle.kmipa_segments.proofs.ChainingLemmas.{prints_named}
 use Rattle.kmipa_segments.proofs.chaining.chain_compare.Goals as goal

@@ -1,8 +1,8 @@
 use Rattle.std.proofs.Common.{◌∙◌}
 use Rattle.std.proofs.lemmas.List.{append-nil}
 use Rattle.std.specs.Io.{appended_bytes}
-use Rattle.kmipa_search.specs.declared.found.Found.TheVariants.{OutOfTime}
-use Rattle.kmipa_runs.specs.Searches.{found_status, found_text}
+use Rattle.kmipa_orders.specs.declared.found.Found.TheVariants.{OutOfTime}
+use Rattle.kmipa_searches.specs.Searches.{found_status, found_text}
 use Rattle.kmipa_segments.proofs.ChainingLemmas.{never_done, told_named}
 use Rattle.kmipa_segments.proofs.chaining.chain_out_of_time.Goals as goal
 

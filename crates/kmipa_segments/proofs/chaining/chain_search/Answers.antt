@@ -1,6 +1,6 @@
 use Rattle.std.proofs.Common.{◌≡◌, List, ℕ, Ok, rules}
 use Rattle.kmipa_ttlv.specs.Input.{came_of}
-use Rattle.kmipa_runs.specs.declared.status.Status.{Status}
+use Rattle.kmipa_jobs.specs.declared.status.Status.{Status}
 use Rattle.kmipa_segments.specs.Chains.{TellsSearched}
 use Rattle.kmipa_segments.specs.declared.segment_search.FoundSegment.{FoundSegment}
 use Rattle.kmipa_segments.proofs.ChainingLemmas.{judged_printed, kept_next_somehow, next_somehow, unjudged_printed, was_done}

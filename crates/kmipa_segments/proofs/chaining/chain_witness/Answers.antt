@@ -1,4 +1,4 @@
-use Rattle.kmipa_runs.proofs.SearchLemmas.{appended_witness}
+use Rattle.kmipa_searches.proofs.SearchLemmas.{appended_witness}
 use Rattle.kmipa_segments.proofs.chaining.chain_witness.Goals as goal
 
 pub returns-in-Ok-clause-made : goal.returns-in-Ok-clause-made

@@ -1,6 +1,6 @@
 use Rattle.std.proofs.Common.{List, ℕ, inl, subst, sym}
 use Rattle.kmipa_runs.specs.Lines.{PrintsFault}
-use Rattle.kmipa_runs.specs.declared.status.Status.{Status}
+use Rattle.kmipa_jobs.specs.declared.status.Status.{Status}
 use Rattle.kmipa_segments.proofs.ChainingLemmas.{prints_named}
 use Rattle.kmipa_segments.proofs.chaining.tell_fault.Goals as goal
 

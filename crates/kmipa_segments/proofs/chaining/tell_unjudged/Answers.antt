@@ -1,6 +1,6 @@
 use Rattle.std.proofs.Common.{◌⊎◌, subst, sym}
 use Rattle.std.specs.Io.{appended_bytes}
-use Rattle.kmipa_runs.specs.Statuses.{IsSilent}
+use Rattle.kmipa_jobs.specs.Statuses.{IsSilent}
 use Rattle.kmipa_segments.specs.Chains.{PrintsUnjudged}
 use Rattle.kmipa_segments.specs.declared.next.Unjudged.{Unjudged}
 use Rattle.kmipa_segments.proofs.GapLemmas.{gap_printed}

@@ -1,7 +1,7 @@
 use Rattle.std.proofs.Common.{refl, sym, subst, Ok}
 use Rattle.kmipa_record.specs.Declarations.{declaration_of}
 use Rattle.kmipa_record.specs.Transcripts.{transcript_of}
-use Rattle.kmipa_search.specs.declared.found.Found.TheVariants.{Yes, GaveUp, Refuted, Impossible, OutOfTime}
+use Rattle.kmipa_orders.specs.declared.found.Found.TheVariants.{Yes, GaveUp, Refuted, Impossible, OutOfTime}
 use Rattle.kmipa_segments.specs.SegmentSearches.{SearchesSegment}
 use Rattle.kmipa_segments.specs.declared.segment_search.FoundSegment.{FoundSegment}
 use Rattle.kmipa_segments.proofs.SegmentSearchLemmas.{found_so, gives_up, never_explained, refutes, tallied_so}

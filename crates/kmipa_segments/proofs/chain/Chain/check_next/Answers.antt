@@ -4,7 +4,7 @@ use Rattle.kmipa_ttlv.specs.Input.{came_of, is_failed}
 use Rattle.kmipa_ttlv.proofs.ReadLemmas.{itself}
 use Rattle.kmipa_links.specs.declared.links.Links.{Links}
 use Rattle.kmipa_check.specs.declared.segment.Left.{Left}
-use Rattle.kmipa_runs.specs.Statuses.{IsSilent}
+use Rattle.kmipa_jobs.specs.Statuses.{IsSilent}
 use Rattle.kmipa_segments.specs.Chains.{ChecksNext, TellsChecked}
 use Rattle.kmipa_segments.proofs.ChainLemmas.{goes_on_by, leaves_declared}
 use Rattle.kmipa_segments.proofs.chain.Chain.check_next.Goals as goal
