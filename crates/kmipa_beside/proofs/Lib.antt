@@ -1,0 +1,4 @@
+pub mod DeclaredLemmas
+pub mod ReachLemmas
+pub mod AuditLemmas
+pub mod StatusLemmas

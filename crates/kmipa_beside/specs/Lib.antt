@@ -1,0 +1,3 @@
+pub mod Audits
+pub mod Lines
+pub mod Checks

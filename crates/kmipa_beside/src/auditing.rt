@@ -1,0 +1,104 @@
+//! The audit of three inputs whose declaration sets aside what isn't judged.
+
+ghost use Rattle.std.specs.Prelude.{◌≡◌, ◌≢◌, ℕ, List, [], IfOk, IsTrue, OnOk};
+ghost use Rattle.kmipa_ttlv.specs.Input.{came_of, is_ended, is_failed, IsFileOf};
+ghost use Rattle.kmipa_msgs.specs.declared.rules.Unjudged.TheVariants.{Refused};
+ghost use Rattle.kmipa_record.specs.Declarations.{DeclarationOf};
+ghost use Rattle.kmipa_record.specs.Marks.{AreRecorded, MarkOf};
+ghost use Rattle.kmipa_record.specs.Taking.{HasTaken};
+ghost use Rattle.kmipa_record.specs.TranscriptReading.{IsKnownBy};
+ghost use Rattle.kmipa_record.specs.Transcripts.{transcript_of};
+ghost use Rattle.kmipa_record.specs.Witnesses.{witness_of};
+ghost use Rattle.kmipa_record.specs.declared.reach.Reach.TheVariants.{Aside};
+ghost use Rattle.kmipa_stream.specs.Opening.{Opens};
+ghost use Rattle.kmipa_trail.specs.Verdicts.{Checks};
+ghost use Rattle.kmipa_beside.specs.Audits.{Audits, fault_of, verdict_alone};
+
+use crate::declared::Declared;
+use kmipa_check::{AuditFault, CheckFault, Grants};
+use kmipa_record::{Head, Transcript, Witness, read_transcript, read_witness};
+use kmipa_stream::{Opening, rules_with};
+use kmipa_trail::{Fault, Verdict, check_opened, set_rest_aside};
+use kmipa_ttlv::Input;
+use std::alloc::Global;
+use std::io::Read;
+
+/// A verdict, with what the transcript is known by.
+#[derive(Drop)]
+pub(crate) struct Told {
+    pub verdict: Verdict,
+    pub head: Option<Head>,
+}
+
+/// The verdict on a transcript and a witness of which nothing was read, behind a declaration that was read to its end, and sets aside what isn't judged.
+pub(crate) fn audit_beside<R: Read>(
+    alloc: Global,
+    transcript: &mut Input<R>,
+    declaration: &Input<R>,
+    declared: Declared,
+    witness: &mut Input<R>,
+) -> Result<Told, AuditFault>
+    requires transcript { came_of transcript.old ≡ [] }
+    requires witness { came_of witness.old ≡ [] }
+    requires taken { HasTaken Aside Opens declared.settings (came_of declaration.now) declared.opening }
+    requires ended { IsTrue (is_ended declaration.now) }
+    requires aside { declared.settings.unjudged ≢ Refused }
+    ensures audits { (t d w : List ℕ) → IsFileOf t transcript.new → IsFileOf d declaration.now → IsFileOf w witness.new
+        → Audits t d w (is_failed transcript.new) (is_failed witness.new) (verdict_alone result) }
+    ensures known { IfOk result (λ told. (marks : List MarkOf) × IsKnownBy (came_of transcript.new) marks told.head) }
+    ensures ended { OnOk result (IsTrue (is_ended transcript.new) × IsTrue (is_ended witness.new)) }
+{
+    let transcript = match read_transcript(alloc, transcript) {
+        Ok(transcript) => transcript,
+        Err(fault) => return Err(AuditFault::Transcript(fault)),
+    };
+    let witness = match read_witness(alloc, witness) {
+        Ok(witness) => witness,
+        Err(fault) => return Err(AuditFault::Witness(fault)),
+    };
+    match check_declared(alloc, declared, &transcript, &witness) {
+        Ok(verdict) => Ok(Told {
+            verdict,
+            head: transcript.head,
+        }),
+        Err(fault) => Err(AuditFault::Check(fault_of(fault))),
+    }
+}
+
+/// The verdict on a transcript and a witness, by what was read of a declaration.
+fn check_declared(
+    alloc: Global,
+    declared: Declared,
+    transcript: &Transcript,
+    witness: &Witness,
+) -> Result<Verdict, Fault>
+    requires { (given : DeclarationOf) × (given.settings ≡ declared.settings) × Opens declared.opening given }
+    ensures { (given : DeclarationOf) → given.settings ≡ declared.settings → Opens declared.opening given
+        → AreRecorded (transcript_of transcript.now)
+        → Checks (transcript_of transcript.now) given (witness_of witness.now) result }
+{
+    let Declared { settings, opening } = declared;
+    let Opening {
+        mut ledger,
+        rows,
+        allow_lines,
+        own_attributes,
+    } = opening;
+    let rules = rules_with(alloc, settings, rows, allow_lines)?;
+    let grants = Grants {
+        tolerance: settings.tolerance,
+        own: own_attributes.as_slice(),
+    };
+    set_rest_aside(&mut ledger, settings.unjudged);
+    check_opened(alloc, &mut ledger, &rules, &grants, transcript, witness)
+}
+
+/// The fault of a check, as one of any check.
+fn fault_of(fault: Fault) -> CheckFault
+    ensures { result ≡ fault_of fault }
+{
+    match fault {
+        Fault::Witness(fault) => CheckFault::Witness(fault),
+        Fault::Memory => CheckFault::Memory,
+    }
+}

@@ -1,0 +1,10 @@
+//! Checks of three inputs, whether or not their declaration sets aside what isn't judged.
+#![tactic(auto)]
+
+mod auditing;
+mod declared;
+mod lines;
+mod running;
+
+pub use lines::{judged_line, stamp_line};
+pub use running::check_any_run;
