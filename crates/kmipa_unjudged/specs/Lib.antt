@@ -1,0 +1,9 @@
+pub mod Passing
+pub mod Ranking
+pub mod Told
+pub mod Naming
+pub mod Asides
+pub mod Unjudged
+pub mod Laws
+pub mod Known
+pub mod Following
