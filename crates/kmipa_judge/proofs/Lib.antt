@@ -1,0 +1,5 @@
+mod ClientLemmas
+mod LineLemmas
+mod RunLemmas
+mod StatusLemmas
+mod UnjudgedLemmas

@@ -1,0 +1,13 @@
+use Rattle.std.proofs.Common.{Some}
+use Rattle.kmipa_judge.proofs.StatusLemmas.{done_is_explained, no_is_convicted}
+use Rattle.kmipa_judge.proofs.running.judge_run.Goals as goal
+
+pub returns-clause-explained : goal.returns-clause-explained
+returns-clause-explained g c =
+    let run = c.judge_both.result in
+    done_is_explained (g.W.Watch.seconds c.args.watch) c.judge_both.new.transcript (Some c.judge_both.new.declaration) run.status run.lines.items run.witness.items run.declaration.items c.judge_both.ensures.told
+
+pub returns-clause-convicted : goal.returns-clause-convicted
+returns-clause-convicted g c =
+    let run = c.judge_both.result in
+    no_is_convicted (g.W.Watch.seconds c.args.watch) c.judge_both.new.transcript (Some c.judge_both.new.declaration) run.status run.lines.items run.witness.items run.declaration.items c.judge_both.ensures.told

@@ -1,0 +1,25 @@
+-- BY WHICH DECLARATION A RECORDING IS JUDGED (profile).
+use Rattle.std.specs.Prelude.{pos, false}
+use Rattle.kmipa_msgs.specs.declared.rules.Unjudged.{Unjudged}
+use Rattle.kmipa_msgs.specs.declared.rules.Unjudged.TheVariants.{Refused, SetAside, Unknown}
+use Rattle.kmipa_msgs.specs.declared.rules.Visibility.TheVariants.{Everyone}
+use Rattle.kmipa_record.specs.Declarations.{DeclarationOf, nothing_declared}
+use Rattle.kmipa_record.specs.declared.settings.Settings.{Settings}
+
+-- what isn't judged is set aside, also where a declaration would end the audit there
+abbrev pub aside_for : Unjudged → Unjudged
+aside_for Refused = SetAside
+aside_for SetAside = SetAside
+aside_for Unknown = Unknown
+
+abbrev pub aside_settings : Settings → Settings
+aside_settings s = record s { unjudged = aside_for s.unjudged }
+
+-- the declaration that is used for one that is given
+abbrev pub judging_by : DeclarationOf → DeclarationOf
+judging_by d = record d { settings = aside_settings d.settings }
+
+-- Where none is given nothing is known of the server: names may be shared, nothing is known of identifiers, moments are stamps, and no object, line or owner
+-- is declared.
+abbrev pub nothing_known : DeclarationOf
+nothing_known = nothing_declared (record { unique_names = false; unjudged = Unknown; tolerance = pos 0; visibility = Everyone })

@@ -1,0 +1,52 @@
+-- WHAT IS SAID OF A RECORDING IN A WORD (profile).
+use Rattle.std.specs.Prelude.{◌≡◌, ◌⊎◌, ◌↔◌, ◌==◌, ◌&&◌, ℕ, Bool, true, false, if◌then◌else◌, IsTrue, List, length, map}
+use Rattle.kmipa_record.specs.Marks.{MarkOf}
+use Rattle.kmipa_trail.specs.Tallies.{TallyOf}
+use Rattle.kmipa_trail.specs.Told.{tally_of}
+use Rattle.kmipa_findings.specs.Findings.{FindingOf}
+use Rattle.kmipa_findings.specs.Told.{finding_of}
+use Rattle.kmipa_findings.specs.declared.finding.Outcome.{Outcome}
+use Rattle.kmipa_findings.specs.declared.finding.Outcome.TheVariants as outcome
+use Rattle.kmipa_jobs.specs.declared.status.Status.{Status}
+use Rattle.kmipa_jobs.specs.declared.status.Status.TheVariants as status
+use Rattle.kmipa_judge.specs.Clients.{AreOfOne}
+use Rattle.kmipa_judge.specs.declared.opinion.Opinion.{Opinion}
+use Rattle.kmipa_judge.specs.declared.opinion.Opinion.TheVariants.{Explained, NothingJudged, Convicted, Suspected, Undecided}
+
+-- the findings of an outcome, and how many calls were tried for it
+abbrev pub findings_of : Outcome → List FindingOf
+findings_of (outcome.Judged j) = map finding_of j.findings.items
+findings_of (outcome.Undecided u) = map finding_of u.findings.items
+
+abbrev pub steps_of : Outcome → ℕ
+steps_of (outcome.Judged j) = j.steps
+steps_of (outcome.Undecided u) = u.steps
+
+-- where nothing was found: some item is judged, and nothing is set aside by the witness alone
+abbrev pub opinion_unfound : TallyOf → Opinion
+opinion_unfound k = if k.counts.judged == 0 then NothingJudged else (if k.excepted == 0 then Explained else Suspected)
+
+-- where something was: by whether no order explains every answer
+abbrev pub opinion_found : Bool → Opinion
+opinion_found true = Convicted
+opinion_found false = Suspected
+
+abbrev pub opinion_by : ℕ → TallyOf → Bool → Opinion
+opinion_by findings k decided = if findings == 0 then opinion_unfound k else opinion_found decided
+
+-- by whether it counts, that no order explains every answer
+abbrev pub opinion_of : Bool → Outcome → Opinion
+opinion_of counts (outcome.Judged j) = opinion_by (length j.findings.items) (tally_of j.tally) (j.is_decided && counts)
+opinion_of counts (outcome.Undecided u) = Undecided
+
+abbrev pub opinion_status : Opinion → Status
+opinion_status Explained = status.Done
+opinion_status NothingJudged = status.GaveUp
+opinion_status Convicted = status.No
+opinion_status Suspected = status.GaveUp
+opinion_status Undecided = status.GaveUp
+
+-- It counts where something is declared, or all calls came from clients of one identity: else a server may have hidden objects from some of them, and that
+-- isn't judged.
+abbrev pub Counts : Bool → List MarkOf → Bool → Type 0
+Counts assumed marks counts = IsTrue counts ↔ ((assumed ≡ false) ⊎ AreOfOne marks)

@@ -1,0 +1,93 @@
+-- WHAT `judge` TELLS AND MAKES of a transcript, and of a declaration where one is given (profile).
+use Rattle.std.specs.Prelude.{◌≡◌, ℕ, Bool, true, false, List, [], ◌++◌, IsTrue, Option, Some, None}
+use Rattle.kmipa_ttlv.specs.Input.{came_of, is_ended, is_failed, IsFileOf}
+use Rattle.kmipa_ttlv.specs.declared.input.Input.{Input}
+use Rattle.kmipa_record.specs.Declarations.{DeclarationOf, IsDeclarationWithin}
+use Rattle.kmipa_record.specs.Files.{Tells}
+use Rattle.kmipa_record.specs.Marks.{MarkOf}
+use Rattle.kmipa_record.specs.Transcripts.{IsTranscript, TranscriptFault, IsTranscriptUpTo}
+use Rattle.kmipa_record.specs.Witnesses.{witness_of}
+use Rattle.kmipa_record.specs.Writing.{IsWrittenDeclarationWithin, IsWrittenWitness}
+use Rattle.kmipa_record.specs.declared.reach.Reach.TheVariants.{Aside}
+use Rattle.kmipa_check.specs.declared.auditing.AuditFault.{AuditFault}
+use Rattle.kmipa_check.specs.declared.auditing.AuditFault.TheVariants as audit
+use Rattle.kmipa_findings.specs.Outcomes.{Judges}
+use Rattle.kmipa_findings.specs.declared.finding.Outcome.{Outcome}
+use Rattle.kmipa_findings.specs.declared.finding.Outcome.TheVariants.{Judged, Undecided}
+use Rattle.kmipa_runs.specs.Lines.{PrintsFault}
+use Rattle.kmipa_jobs.specs.Statuses.{IsSilent}
+use Rattle.kmipa_jobs.specs.declared.status.Status.{Status}
+use Rattle.kmipa_beside.specs.Audits.{FailsFirst}
+use Rattle.kmipa_judge.specs.Declaring.{judging_by, nothing_known}
+use Rattle.kmipa_judge.specs.Lines.{PrintsOutcome}
+use Rattle.kmipa_judge.specs.Opinions.{Counts}
+use Rattle.kmipa_judge.specs.Unjudged.{PrintsUnjudged}
+
+-- ---- the records
+
+-- nothing is made
+abbrev pub MakesNothing : List ℕ → List ℕ → Type 0
+MakesNothing witness declaration = (witness ≡ []) × (declaration ≡ [])
+
+-- What is made of an outcome: files of its witness and of the declaration that was used, in the lowest versions that serve; of what is undecided none.
+abbrev pub Makes : DeclarationOf → Outcome → List ℕ → List ℕ → Type 0
+Makes declared (Judged j) witness declaration = IsWrittenWitness (witness_of j.witness) witness × IsWrittenDeclarationWithin Aside declared declaration
+Makes declared (Undecided u) witness declaration = MakesNothing witness declaration
+
+-- All lines of an outcome, and the status that goes with them: behind its own those of what isn't judged.
+pub record PrintsWhole (assumed counts : Bool) (marks : List MarkOf) (declared : DeclarationOf) (o : Outcome) (said : Status) (lines : List ℕ) : Type 0 where
+  pub front : List ℕ
+  pub prints : PrintsOutcome assumed counts o said front
+  pub behind : List ℕ
+  pub unjudged : PrintsUnjudged marks declared o behind
+  pub are : lines ≡ front ++ behind
+
+-- The marks of a transcript are judged by a declaration, or by none, where nothing is declared: what is told and made is that of what judging them comes to.
+pub record TellsOutcome (seconds : ℕ) (assumed : Bool) (marks : List MarkOf) (declared : DeclarationOf) (said : Status) (lines witness declaration : List ℕ) : Type 0 where
+  pub outcome : Outcome
+  pub judges : Judges seconds marks declared outcome
+  pub counts : Bool
+  pub sure : Counts assumed marks counts
+  pub prints : PrintsWhole assumed counts marks declared outcome said lines
+  pub makes : Makes declared outcome witness declaration
+
+-- so it is; or memory ran out
+pub data JudgesRecords (seconds : ℕ) (assumed : Bool) (marks : List MarkOf) (declared : DeclarationOf) (said : Status) (lines witness declaration : List ℕ) : Type 0 where
+  tells : TellsOutcome seconds assumed marks declared said lines witness declaration → JudgesRecords seconds assumed marks declared said lines witness declaration
+  no_memory : IsSilent said lines → MakesNothing witness declaration → JudgesRecords seconds assumed marks declared said lines witness declaration
+
+-- ---- the files
+
+-- The declaration that is used: the one that the bytes are that came, to the end that was seen; or, where none is given, that of a server of which nothing is
+-- known.
+abbrev pub IsUsed : {R : Type 0} → Option (Input R) → DeclarationOf → Type 0
+IsUsed None declared = declared ≡ nothing_known
+IsUsed (Some d) declared = (given : DeclarationOf) × IsDeclarationWithin Aside (came_of d) given × IsTrue (is_ended d) × (declared ≡ judging_by given)
+
+abbrev pub is_assumed : {R : Type 0} → Option (Input R) → Bool
+is_assumed None = true
+is_assumed (Some d) = false
+
+-- the fault of a transcript alone; the truth says whether its input failed
+abbrev pub FailsAlone : List ℕ → Bool → AuditFault → Type 0
+FailsAlone t failed (audit.Transcript f) = Tells TranscriptFault IsTranscriptUpTo t failed f
+FailsAlone t failed (audit.Declaration f) = ⊥
+FailsAlone t failed (audit.Witness f) = ⊥
+FailsAlone t failed (audit.Check f) = ⊥
+
+-- the first fault of the transcript, or else that of the declaration, whatever the files may be
+abbrev pub Fails : {R : Type 0} → Input R → Option (Input R) → AuditFault → Type 0
+Fails t None fault = (a : List ℕ) → IsFileOf a t → FailsAlone a (is_failed t) fault
+Fails t (Some d) fault = (a b : List ℕ) → IsFileOf a t → IsFileOf b d → FailsFirst a b (is_failed t) (is_failed d) fault
+
+-- the bytes that came, to the end that was seen, are a transcript of these marks
+pub record IsReadAs {R : Type 0} (t : Input R) (marks : List MarkOf) : Type 0 where
+  pub transcript : IsTranscript (came_of t) marks
+  pub ended : IsTrue (is_ended t)
+
+-- THE DEFINITION
+pub data JudgesFiles {R : Type 0} (seconds : ℕ) (t : Input R) (d : Option (Input R)) (said : Status) (lines witness declaration : List ℕ) : Type 0 where
+  judged : (marks : List MarkOf) → IsReadAs t marks → (declared : DeclarationOf) → IsUsed d declared → JudgesRecords seconds (is_assumed d) marks declared said lines witness declaration
+      → JudgesFiles seconds t d said lines witness declaration
+  unread : (fault : AuditFault) → Fails t d fault → PrintsFault fault said lines → MakesNothing witness declaration → JudgesFiles seconds t d said lines witness declaration
+  unsaid : IsSilent said lines → MakesNothing witness declaration → JudgesFiles seconds t d said lines witness declaration

@@ -1,0 +1,127 @@
+//! The lines of what judging comes to.
+
+ghost use Rattle.std.specs.Prelude.{◌≡◌, ℕ, IfOk, map, string_bytes};
+ghost use Rattle.kmipa_findings.specs.Told.{finding_of};
+ghost use Rattle.kmipa_judge.specs.Lines.{PrintsFinding, PrintsFindings, PrintsOutcome, assumed_line, finding_line, first_line, last_lines, over_line, refused_part};
+
+use crate::opinion::{Opinion, findings_of, opinion_of, opinion_status, steps_of};
+use kmipa_beside::{judged_line, stamp_line};
+use kmipa_check::Refused;
+use kmipa_findings::{Finding, Outcome};
+use kmipa_runs::Lines;
+use std::alloc::{AllocError, Global};
+
+/// The lines of an outcome, by whether nothing is declared, and whether it counts that no order explains every answer.
+pub(crate) fn outcome_lines(
+    alloc: Global,
+    outcome: &Outcome,
+    assumed: bool,
+    counts: bool,
+) -> Result<Lines, AllocError>
+    ensures { IfOk result (λ lines. PrintsOutcome assumed counts outcome.now lines.status (string_bytes lines.text)) }
+{
+    let findings = findings_of(outcome);
+    let opinion = opinion_of(outcome, counts);
+    let first = first_line(alloc, opinion, findings.len(), steps_of(outcome))?;
+    let second = assumed_line(assumed);
+    let found = finding_lines(alloc, findings)?;
+    let last = last_lines(alloc, outcome)?;
+    Ok(Lines {
+        text: format!(in alloc; "{first}{second}{found}{last}")?,
+        status: opinion_status(opinion),
+    })
+}
+
+/// The line of an opinion, with how many findings there are, and how many calls were tried.
+fn first_line(
+    alloc: Global,
+    opinion: Opinion,
+    findings: usize,
+    steps: u64,
+) -> Result<String, AllocError>
+    ensures { IfOk result (λ text. string_bytes text ≡ first_line opinion findings steps) }
+{
+    match opinion {
+        Opinion::Explained => String::from_str(alloc, "explained\n"),
+        Opinion::NothingJudged => String::from_str(alloc, "nothing judged\n"),
+        Opinion::Convicted => format!(in alloc; "convicted: {findings} findings\n"),
+        Opinion::Suspected => format!(in alloc; "suspected: {findings} findings\n"),
+        Opinion::Undecided => format!(in alloc; "undecided: {findings} findings, {steps} steps\n"),
+    }
+}
+
+/// The line that says so where nothing is declared.
+fn assumed_line(assumed: bool) -> &'static str
+    ensures { result.now ≡ assumed_line assumed }
+{
+    if assumed {
+        "assumed: nothing is declared\n"
+    } else {
+        ""
+    }
+}
+
+/// The lines of findings, the first of which is number 1.
+fn finding_lines(alloc: Global, findings: &[Finding]) -> Result<String, AllocError>
+    ensures { IfOk result (λ text. PrintsFindings 1 (map finding_of findings.now) (string_bytes text)) }
+{
+    let mut text = String::new(alloc);
+    let mut count = 0;
+    'findings: while count < findings.len() {
+        let lines = lines_of_finding(alloc, count + 1, &findings[count])?;
+        text.push_str(lines.as_str())?;
+        count += 1;
+    }
+    Ok(text)
+}
+
+/// The lines of the finding with this number.
+fn lines_of_finding(alloc: Global, number: usize, finding: &Finding) -> Result<String, AllocError>
+    ensures { IfOk result (λ text. PrintsFinding number (finding_of finding.now) (string_bytes text)) }
+{
+    let first = finding_line(alloc, number, &finding.refused)?;
+    let second = stamp_line(alloc, finding.stamp)?;
+    format!(in alloc; "{first}{second}")
+}
+
+fn finding_line(alloc: Global, count: usize, refused: &Refused) -> Result<String, AllocError>
+    ensures { IfOk result (λ text. string_bytes text ≡ finding_line count refused.now) }
+{
+    let rest = refused_part(alloc, refused)?;
+    format!(in alloc; "finding {count}{rest}")
+}
+
+/// How the line of a finding ends.
+fn refused_part(alloc: Global, refused: &Refused) -> Result<String, AllocError>
+    ensures { IfOk result (λ text. string_bytes text ≡ refused_part refused.now) }
+{
+    let Refused {
+        turn,
+        call,
+        item,
+        why,
+    } = *refused;
+    let number = why.number();
+    let name = why.name();
+    format!(in alloc; ": turn {turn} call {call} item {item} why {number} {name}\n")
+}
+
+/// What stands behind the findings.
+fn last_lines(alloc: Global, outcome: &Outcome) -> Result<String, AllocError>
+    ensures { IfOk result (λ text. string_bytes text ≡ last_lines outcome.now) }
+{
+    match outcome {
+        Outcome::Judged(judged) => judged_line(alloc, &judged.tally),
+        Outcome::Undecided(undecided) => over_line(alloc, undecided.over),
+    }
+}
+
+/// The line that so many seconds are over, where they are.
+fn over_line(alloc: Global, over: Option<u64>) -> Result<String, AllocError>
+    ensures { IfOk result (λ text. string_bytes text ≡ over_line over) }
+{
+    match over {
+        Some(seconds) => format!(in alloc; "not decided: {seconds} seconds are over\n"),
+        None => Ok(String::new(alloc)),
+    }
+}
