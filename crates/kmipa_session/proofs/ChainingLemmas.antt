@@ -10,8 +10,8 @@ use Rattle.kmipa_segments.specs.Chains.{GoesOnBy}
 use Rattle.kmipa_segments.specs.declared.chain.Chain.{Chain}
 use Rattle.kmipa_session.specs.Keeping.{AreKept, AreNextKept, IsKeptAs, IsNextKept}
 use Rattle.kmipa_session.specs.declared.folder.FolderSegment.{FolderSegment}
-use Rattle.kmipa_runs.specs.declared.status.Status.{Status}
-use Rattle.kmipa_runs.specs.declared.status.Status.TheVariants.{Done, Failed}
+use Rattle.kmipa_jobs.specs.declared.status.Status.{Status}
+use Rattle.kmipa_jobs.specs.declared.status.Status.TheVariants.{Done, Failed}
 
 -- the status that is left of a run is Done only where that of the run was
 pub told_done : {A B : Type 0} (left status : Status) → ((left ≡ status) × A) ⊎ ((left ≡ Failed) × B) → left ≡ Done → status ≡ Done

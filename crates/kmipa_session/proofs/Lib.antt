@@ -1,3 +1,4 @@
 mod ChainingLemmas
+mod JudgingLemmas
 mod SealingLemmas
 mod SessionLemmas

@@ -9,9 +9,9 @@ use Rattle.kmipa_record.specs.declared.torn.Torn.{Torn}
 use Rattle.kmipa_record.proofs.TornLemmas.{sealed_ahead_lem}
 use Rattle.kmipa_runs.specs.Knowing.{Known, KnowsSeals}
 use Rattle.kmipa_runs.specs.Sealing.{HasSeal}
-use Rattle.kmipa_runs.specs.Statuses.{IsSilent}
-use Rattle.kmipa_runs.specs.declared.status.Status.{Status}
-use Rattle.kmipa_runs.specs.declared.status.Status.TheVariants as status
+use Rattle.kmipa_jobs.specs.Statuses.{IsSilent}
+use Rattle.kmipa_jobs.specs.declared.status.Status.{Status}
+use Rattle.kmipa_jobs.specs.declared.status.Status.TheVariants as status
 use Rattle.kmipa_session.specs.Sealing.{IsKnownAsExpected, IsWithoutClose, KnownAhead, KnownAsTold, KnowsTold, SaysSeals, no_verdict, as_expected, other_head, no_memory, is_verdict, other_head_text, sealed_line}
 use Rattle.kmipa_session.specs.declared.voice.Voice.{Voice}
 

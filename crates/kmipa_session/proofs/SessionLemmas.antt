@@ -1,24 +1,32 @@
 -- From what a run appends to what a session prints.
-use Rattle.std.proofs.Common.{◌≡◌, ◌⊎◌, inl, inr, List, [], ℕ, Bool, refl, sym, ap, subst, Result, Ok, Err}
+use Rattle.std.proofs.Common.{◌≡◌, ◌⊎◌, inl, inr, List, [], ℕ, Bool, Option, refl, sym, ap, subst, Result, Ok, Err}
 use Rattle.std.specs.Prelude.{IfOk, IsTrue}
 use Rattle.std.specs.Io.{appended_bytes}
 use Rattle.kmipa_ttlv.specs.Input.{came_of, is_ended, is_failed, IsFileOf}
 use Rattle.kmipa_ttlv.specs.declared.input.Input.{Input}
 use Rattle.kmipa_runs.specs.Inputs.{AreShown, PrintsShown}
-use Rattle.kmipa_runs.specs.Statuses.{IsSilent}
-use Rattle.kmipa_runs.specs.declared.options.ShowOptions.{ShowOptions}
-use Rattle.kmipa_runs.specs.declared.status.Status.{Status}
-use Rattle.kmipa_runs.specs.declared.status.Status.TheVariants as status
+use Rattle.kmipa_jobs.specs.Statuses.{IsSilent}
+use Rattle.kmipa_jobs.specs.declared.options.ShowOptions.{ShowOptions}
+use Rattle.kmipa_jobs.specs.declared.status.Status.{Status}
+use Rattle.kmipa_jobs.specs.declared.status.Status.TheVariants as status
+use Rattle.kmipa_session.specs.Checks.{Checks}
 use Rattle.kmipa_session.specs.Printing.{trouble_text}
 use Rattle.kmipa_session.specs.Searches.{Shows}
 use Rattle.kmipa_session.specs.Sessions.{IsRefused, TellsDone, TellsWhat}
 use Rattle.kmipa_session.specs.declared.did.Did.{Did}
 use Rattle.kmipa_session.specs.declared.did.Said.{Said}
+use Rattle.kmipa_jobs.specs.declared.job.Form.{Form}
+use Rattle.kmipa_session.specs.declared.ran.Ran.{Ran}
 use Rattle.kmipa_session.specs.declared.voice.Voice.{Voice}
 
 -- behind nothing all is new
 pub behind_nothing : (P : List ℕ → Type 0) (old new : List ℕ) → old ≡ [] → P (appended_bytes old new) → P new
 behind_nothing P old new e p = subst P (ap (λ (xs : List ℕ). appended_bytes xs new) e) p
+
+-- what is told of a run is what it said
+pub told_so : {R : Type 0} (form : Form) (torn : Option ℕ) (t d w : Input R) (ran told : Ran) → told.status ≡ ran.status → told.lines ≡ ran.lines
+    → Checks form torn t d w ran.status ran.lines.items → Checks form torn t d w told.status told.lines.items
+told_so form torn t d w ran told status lines p = rw status (rw lines p)
 
 -- and so of two lists
 pub both_behind_nothing : (P : List ℕ → List ℕ → Type 0) (old new old_made made : List ℕ) → old ≡ [] → old_made ≡ []

@@ -1,15 +1,15 @@
 -- What a check says of three files, of what their reads gave.
-use Rattle.std.specs.Prelude.{◌≡◌, ◌≢◌, ◌⊎◌, ◌↔◌, ℕ, ℤ, List, [], Bool, IsTrue, Option, Result}
+use Rattle.std.specs.Prelude.{◌≡◌, ◌⊎◌, ◌↔◌, ℕ, ℤ, List, [], Bool, IsTrue, Option, Result}
 use Rattle.kmipa_ttlv.specs.Input.{came_of, is_ended, is_failed, IsFileOf}
 use Rattle.kmipa_ttlv.specs.declared.input.Input.{Input}
-use Rattle.kmipa_check.specs.Audits.{AreAccepted, AuditsAs}
+use Rattle.kmipa_check.specs.Audits.{AreAccepted}
 use Rattle.kmipa_check.specs.declared.auditing.Audited.{Audited}
 use Rattle.kmipa_check.specs.declared.auditing.AuditFault.{AuditFault}
-use Rattle.kmipa_check.specs.declared.verdict.Verdict.{Verdict}
-use Rattle.kmipa_runs.specs.Lines.{AreYesLines, FitsStatus, IsDated, PrintsOutcome, SaysYes}
-use Rattle.kmipa_runs.specs.Statuses.{IsSilent}
-use Rattle.kmipa_runs.specs.declared.status.Status.{Status}
-use Rattle.kmipa_runs.specs.declared.status.Status.TheVariants as status
+use Rattle.kmipa_runs.specs.Lines.{AreYesLines, FitsStatus}
+use Rattle.kmipa_jobs.specs.Statuses.{IsSilent}
+use Rattle.kmipa_jobs.specs.declared.status.Status.{Status}
+use Rattle.kmipa_jobs.specs.declared.status.Status.TheVariants as status
+use Rattle.kmipa_beside.specs.Checks.{ChecksAny}
 use Rattle.kmipa_segments.specs.Leaving.{ChecksSegment, LeadsAsAsked, PrintsSegment}
 use Rattle.kmipa_segments.specs.declared.leaving.Segment.{Segment}
 use Rattle.kmipa_telling.specs.Explaining.{AuditsExplained, PrintsExplained}
@@ -17,28 +17,13 @@ use Rattle.kmipa_telling.specs.ExplainedJson.{ExplainsInputs, PrintsExplainedJso
 use Rattle.kmipa_telling.specs.Judging.{AreEnded, AuditsInputs}
 use Rattle.kmipa_telling.specs.Telling.{PrintsJson}
 use Rattle.kmipa_telling.specs.declared.explained.Explained.{Explained}
-use Rattle.kmipa_telling.specs.declared.fault_told.FaultTold.{FaultTold}
-use Rattle.kmipa_session.specs.declared.job.Form.{Form}
-use Rattle.kmipa_session.specs.declared.job.Form.TheVariants as form
+use Rattle.kmipa_telling.specs.declared.meaning.FaultTold.{FaultTold}
+use Rattle.kmipa_jobs.specs.declared.job.Form.{Form}
+use Rattle.kmipa_jobs.specs.declared.job.Form.TheVariants as form
 
 -- status 0 is answered only where the bytes that came, to the ends that were seen, are accepted
 abbrev pub AcceptsWhenDone : {R : Type 0} → Input R → Input R → Input R → Status → Type 0
 AcceptsWhenDone t d w said = said ≡ status.Done → AreAccepted (came_of t) (came_of d) (came_of w) × IsTrue (is_ended t) × IsTrue (is_ended d) × IsTrue (is_ended w)
-
--- Its lines alone.
-pub record ChecksInLines {R : Type 0} (t d w : Input R) (said : Status) (lines : List ℕ) : Type 0 where
-  -- they tell what an audit answers of whatever the files may be, or memory ran out
-  pub prints : (outcome : Result Verdict AuditFault)
-      × ((a b c : List ℕ) → IsFileOf a t → IsFileOf b d → IsFileOf c w → AuditsAs a b c (is_failed t) (is_failed d) (is_failed w) outcome)
-      × (PrintsOutcome (came_of t) (came_of d) (came_of w) outcome said lines ⊎ IsSilent said lines)
-  -- `yes` is printed with status 0, and there alone
-  pub fits : FitsStatus said lines
-  pub yes : (said ≡ status.Done) ↔ AreYesLines lines
-  pub accepts : AcceptsWhenDone t d w said
-  -- and where the files may be accepted, unless one fails or memory runs out
-  pub accepted : (a b c : List ℕ) → IsFileOf a t → IsFileOf b d → IsFileOf c w → SaysYes (is_failed t) (is_failed d) (is_failed w) said lines a b c
-  -- a no has its date
-  pub dated : said ≡ status.No → IsDated lines (came_of t) (came_of d) (came_of w)
 
 -- Behind those of a no stands what it means.
 pub record ChecksExplained {R : Type 0} (t d w : Input R) (said : Status) (lines : List ℕ) : Type 0 where
@@ -61,7 +46,7 @@ pub record ChecksExplainedInJson {R : Type 0} (torn : Option ℕ) (t d w : Input
 
 -- what a check of whole files says in this form
 abbrev pub Checks : {R : Type 0} → Form → Option ℕ → Input R → Input R → Input R → Status → List ℕ → Type 0
-Checks form.Lines torn t d w said lines = ChecksInLines t d w said lines
+Checks form.Lines torn t d w said lines = ChecksAny t d w said lines
 Checks form.Explained torn t d w said lines = ChecksExplained t d w said lines
 Checks form.Json torn t d w said lines = ChecksInJson torn t d w said lines
 Checks form.ExplainedJson torn t d w said lines = ChecksExplainedInJson torn t d w said lines

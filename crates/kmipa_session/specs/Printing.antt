@@ -1,9 +1,9 @@
 -- What is printed of a run, and the status that is left of its own.
 use Rattle.std.specs.Prelude.{◌≡◌, ◌≢◌, ◌⊎◌, ◌++◌, ℕ, List, [], Bool, true, false, IsTrue, codes}
-use Rattle.kmipa_runs.specs.declared.status.Status.{Status}
-use Rattle.kmipa_runs.specs.declared.status.Status.TheVariants as status
-use Rattle.kmipa_session.specs.declared.job.Form.{Form}
-use Rattle.kmipa_session.specs.declared.job.Form.TheVariants as form
+use Rattle.kmipa_jobs.specs.declared.status.Status.{Status}
+use Rattle.kmipa_jobs.specs.declared.status.Status.TheVariants as status
+use Rattle.kmipa_jobs.specs.declared.job.Form.{Form}
+use Rattle.kmipa_jobs.specs.declared.job.Form.TheVariants as form
 use Rattle.kmipa_session.specs.declared.voice.Voice.{Voice}
 use Rattle.kmipa_session.specs.declared.voice.Voice.TheVariants.{Lines, Object}
 

@@ -8,9 +8,9 @@ use Rattle.kmipa_record.specs.declared.head.Head.{Head}
 use Rattle.kmipa_record.specs.declared.torn.Torn.{Torn}
 use Rattle.kmipa_runs.specs.Knowing.{Known, KnowsSeals}
 use Rattle.kmipa_runs.specs.Sealing.{HasSeal, SpellsSeal, head_line, other_head_line, other_head_object, torn_line}
-use Rattle.kmipa_runs.specs.Statuses.{IsSilent}
-use Rattle.kmipa_runs.specs.declared.status.Status.{Status}
-use Rattle.kmipa_runs.specs.declared.status.Status.TheVariants as status
+use Rattle.kmipa_jobs.specs.Statuses.{IsSilent}
+use Rattle.kmipa_jobs.specs.declared.status.Status.{Status}
+use Rattle.kmipa_jobs.specs.declared.status.Status.TheVariants as status
 use Rattle.kmipa_session.specs.Worlds.{input_of, torn_of}
 use Rattle.kmipa_session.specs.declared.named.Named.{Named}
 use Rattle.kmipa_session.specs.declared.ran.Ran.{Ran}

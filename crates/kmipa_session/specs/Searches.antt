@@ -5,23 +5,23 @@ use Rattle.kmipa_ttlv.specs.declared.input.Input.{Input}
 use Rattle.kmipa_check.specs.Audits.{AreAccepted}
 use Rattle.kmipa_check.specs.declared.auditing.AuditFault.{AuditFault}
 use Rattle.kmipa_runs.specs.Inputs.{AreShown, PrintsShown}
-use Rattle.kmipa_runs.specs.Searches.{PrintsSearch, SearchesFiles}
-use Rattle.kmipa_runs.specs.Statuses.{IsSilent}
-use Rattle.kmipa_runs.specs.declared.options.ShowOptions.{ShowOptions}
-use Rattle.kmipa_runs.specs.declared.searched.Searched.{Searched}
-use Rattle.kmipa_runs.specs.declared.status.Status.{Status}
-use Rattle.kmipa_runs.specs.declared.status.Status.TheVariants as status
+use Rattle.kmipa_searches.specs.Searches.{PrintsSearch, SearchesFiles}
+use Rattle.kmipa_jobs.specs.Statuses.{IsSilent}
+use Rattle.kmipa_jobs.specs.declared.options.ShowOptions.{ShowOptions}
+use Rattle.kmipa_searches.specs.declared.searched.Searched.{Searched}
+use Rattle.kmipa_jobs.specs.declared.status.Status.{Status}
+use Rattle.kmipa_jobs.specs.declared.status.Status.TheVariants as status
 use Rattle.kmipa_segments.specs.Leaving.{LeadsAsAsked}
 use Rattle.kmipa_segments.specs.SegmentSearches.{PrintsSegmentSearch, SearchesSince}
 use Rattle.kmipa_segments.specs.declared.segment_search.FoundSegment.{FoundSegment}
-use Rattle.kmipa_telling.specs.Deciding.{DecidesFiles}
-use Rattle.kmipa_telling.specs.GivingUp.{PrintsGivingUp}
-use Rattle.kmipa_telling.specs.JsonSearches.{DecidesInputs, PrintsJsonSearch}
-use Rattle.kmipa_telling.specs.declared.fault_told.FaultTold.{FaultTold}
-use Rattle.kmipa_telling.specs.declared.judged.Judged.{Judged}
-use Rattle.kmipa_session.specs.declared.job.Form.{Form}
-use Rattle.kmipa_session.specs.declared.job.Form.TheVariants as form
-use Rattle.kmipa_session.specs.declared.job.SearchWords.{SearchWords}
+use Rattle.kmipa_searches.specs.Deciding.{DecidesFiles}
+use Rattle.kmipa_searches.specs.GivingUp.{PrintsGivingUp}
+use Rattle.kmipa_searches.specs.JsonSearches.{DecidesInputs, PrintsJsonSearch}
+use Rattle.kmipa_telling.specs.declared.meaning.FaultTold.{FaultTold}
+use Rattle.kmipa_searches.specs.declared.judged.Judged.{Judged}
+use Rattle.kmipa_jobs.specs.declared.job.Form.{Form}
+use Rattle.kmipa_jobs.specs.declared.job.Form.TheVariants as form
+use Rattle.kmipa_jobs.specs.declared.job.SearchWords.{SearchWords}
 
 -- memory ran out, and nothing is made
 abbrev pub MakesNothing : Status → List ℕ → List ℕ → Type 0

@@ -1,31 +1,36 @@
 -- What a session did in a world, and what it printed of it.
-use Rattle.std.specs.Prelude.{◌≡◌, ◌≢◌, ◌⊎◌, ◌++◌, ℕ, ℤ, List, [], Bool, IsTrue, is_some, Option, Some, None, Result, Ok, Err}
+use Rattle.std.specs.Prelude.{◌≡◌, ◌≢◌, ◌⊎◌, ◌++◌, ℕ, ℤ, List, [], Bool, true, false, IsTrue, is_some, option_map, Option, Some, None, Result, Ok, Err}
 use denote.Bor.{Bor}
 use Rattle.kmipa_ttlv.specs.Input.{came_of, is_failed}
+use Rattle.kmipa_judge.specs.Runs.{JudgesFiles}
 use Rattle.kmipa_runs.specs.Inputs.{Writes}
-use Rattle.kmipa_runs.specs.declared.options.ShowOptions.{ShowOptions}
-use Rattle.kmipa_runs.specs.declared.status.Status.{Status}
-use Rattle.kmipa_runs.specs.declared.status.Status.TheVariants as status
+use Rattle.kmipa_jobs.specs.declared.options.ShowOptions.{ShowOptions}
+use Rattle.kmipa_jobs.specs.declared.status.Status.{Status}
+use Rattle.kmipa_jobs.specs.declared.status.Status.TheVariants as status
 use Rattle.kmipa_session.specs.Checks.{Checks, ChecksInSegment}
-use Rattle.kmipa_session.specs.Jobs.{asked_of, IsNoMoment, IsSince}
+use Rattle.kmipa_jobs.specs.Jobs.{asked_of}
+use Rattle.kmipa_session.specs.Since.{IsNoMoment, IsSince}
 use Rattle.kmipa_session.specs.Printing.{trouble_text, TellsLines, TellsRest, TellsTrouble, voice_of}
-use Rattle.kmipa_session.specs.Sealing.{IsExpected, IsNoSeal, IsOpenedAs, SaysOf, own_length}
+use Rattle.kmipa_session.specs.Sealing.{IsExpected, IsNoSeal, IsOpenedAs, SaysOf, is_verdict, own_length}
 use Rattle.kmipa_session.specs.Searches.{Searches, SearchesInSegment, Shows}
 use Rattle.kmipa_session.specs.Timing.{SaysInTime}
 use Rattle.kmipa_session.specs.Worlds.{input_of, name_of, torn_of}
 use Rattle.kmipa_session.specs.declared.did.Did.{Did}
 use Rattle.kmipa_session.specs.declared.did.Did.TheVariants as did
 use Rattle.kmipa_session.specs.declared.did.Said.{Said}
-use Rattle.kmipa_session.specs.declared.job.AnswerWords.{AnswerWords}
-use Rattle.kmipa_session.specs.declared.job.Asked.{Asked}
-use Rattle.kmipa_session.specs.declared.job.Asked.TheVariants as asked
-use Rattle.kmipa_session.specs.declared.job.CheckFiles.{CheckFiles}
-use Rattle.kmipa_session.specs.declared.job.Form.{Form}
-use Rattle.kmipa_session.specs.declared.job.Job.{Job}
-use Rattle.kmipa_session.specs.declared.job.Job.TheVariants.{Chain, Check, Search, Show, Write}
-use Rattle.kmipa_session.specs.declared.job.SearchFiles.{SearchFiles}
-use Rattle.kmipa_session.specs.declared.job.SearchWords.{SearchWords}
-use Rattle.kmipa_session.specs.declared.job.SegmentWords.{SegmentWords}
+use Rattle.kmipa_jobs.specs.declared.job.AnswerWords.{AnswerWords}
+use Rattle.kmipa_jobs.specs.declared.job.Asked.{Asked}
+use Rattle.kmipa_jobs.specs.declared.job.Asked.TheVariants as asked
+use Rattle.kmipa_jobs.specs.declared.job.CheckFiles.{CheckFiles}
+use Rattle.kmipa_jobs.specs.declared.job.Form.{Form}
+use Rattle.kmipa_jobs.specs.declared.job.Job.{Job}
+use Rattle.kmipa_jobs.specs.declared.job.Job.TheVariants.{Chain, Check, Judge, Search, Show, Write}
+use Rattle.kmipa_jobs.specs.declared.job.JudgeFiles.{JudgeFiles}
+use Rattle.kmipa_jobs.specs.declared.job.JudgeWords.{JudgeWords}
+use Rattle.kmipa_jobs.specs.declared.job.SealWords.{SealWords}
+use Rattle.kmipa_jobs.specs.declared.job.SearchFiles.{SearchFiles}
+use Rattle.kmipa_jobs.specs.declared.job.SearchWords.{SearchWords}
+use Rattle.kmipa_jobs.specs.declared.job.SegmentWords.{SegmentWords}
 use Rattle.kmipa_session.specs.declared.named.Named.{Named}
 use Rattle.kmipa_session.specs.declared.voice.Voice.{Voice}
 use Rattle.kmipa_session.specs.declared.voice.Voice.TheVariants as voice
@@ -41,6 +46,23 @@ IsMade made name bytes said (Some file) = (said ≡ status.Done) × (made file �
 abbrev pub IsMadeAsAsked : {M : Type 0} → (M → List ℕ × List ℕ) → Option (Bor (List ℕ)) → List ℕ → Status → Option M → Type 0
 IsMadeAsAsked made None bytes said file = file ≡ None
 IsMadeAsAsked made (Some name) bytes said file = IsMade made name.now bytes said file
+
+-- This file was made under this name, of these bytes, where a verdict is said and there are any; else none is told as made.
+abbrev pub IsLeft : {M : Type 0} → (M → List ℕ × List ℕ) → List ℕ → List ℕ → Status → Option M → Type 0
+IsLeft made name bytes said None = (is_verdict said ≡ false) ⊎ (bytes ≡ [])
+IsLeft made name bytes said (Some file) = (is_verdict said ≡ true) × (bytes ≢ []) × (made file ≡ (name, bytes))
+
+-- so it is where the file is asked for; else none is told as made
+abbrev pub IsLeftAsAsked : {M : Type 0} → (M → List ℕ × List ℕ) → Option (Bor (List ℕ)) → List ℕ → Status → Option M → Type 0
+IsLeftAsAsked made None bytes said file = file ≡ None
+IsLeftAsAsked made (Some name) bytes said file = IsLeft made name.now bytes said file
+
+-- this file was opened by this name, or there is no name and none was opened
+abbrev pub IsOpenedBy : {F : Type 0} → Option (Bor (List ℕ)) → Option (Named F) → Type 0
+IsOpenedBy None None = Unit {0}
+IsOpenedBy None (Some file) = ⊥
+IsOpenedBy (Some name) None = ⊥
+IsOpenedBy (Some name) (Some file) = name_of file ≡ name.now
 
 -- nothing was done, since a word is no moment
 abbrev pub IsUntold : {F M E : Type 0} → SegmentWords → Did F M E → Status → List ℕ → Type 0
@@ -104,6 +126,15 @@ module _ {F M E : Type 0} (made : M → List ℕ × List ℕ) (lacked : E → Bo
       × IsMade made files.out.now bytes said file × IsMadeAsAsked made segment.leaves more said left))
   HasSearchedSegment files torn words segment expected other said lines = ⊥
 
+  -- A transcript with this name was judged, the transcript with a close behind it where it was torn and might be, by a declaration with this name, where one is
+  -- given; and of what was made of it, at each verdict, these files were made that are asked for.
+  abbrev pub HasJudged : JudgeFiles → Bool → JudgeWords → Option (List ℕ) → Did F M E → Status → List ℕ → Type 0
+  HasJudged files torn words expected (did.Judged ft fd fw fu) said lines = (name_of ft ≡ files.transcript.now) × IsOpenedAs torn ft × IsOpenedBy files.declaration fd
+      × ((witness used : List ℕ)
+      × SaysOf voice.Lines expected ft (λ ran told. JudgesFiles words.seconds (input_of ft) (option_map input_of fd) ran told witness used) said lines
+      × IsLeftAsAsked made files.witness witness said fw × IsLeftAsAsked made files.used used said fu)
+  HasJudged files torn words expected other said lines = ⊥
+
   -- A file with this name was read for its digits, and the items were made that they spell, if they do.
   abbrev pub HasWritten : List ℕ → List ℕ → Did F M E → Status → List ℕ → Type 0
   HasWritten hex out (did.Written f file) said lines = (name_of f ≡ hex)
@@ -143,6 +174,12 @@ module _ {F M E : Type 0} (made : M → List ℕ × List ℕ) (lacked : E → Bo
   RunsSearch files search words done before after failed left = RunsAsAsked (asked_of words.form words.segment) words.seals.head
       (λ expected asked. RunsAskedSearch files words.seals.torn search words.segment expected asked done before after failed left) (TellsMistake done before after left)
 
+  -- A judging is done, where the head's word spells the seal that is expected, or there is none; or it spells no seal, and that mistake is told.
+  abbrev pub RunsJudge : JudgeFiles → JudgeWords → SealWords → Did F M E → List ℕ → List ℕ → Bool → Status → Type 0
+  RunsJudge files words seals done before after failed left = (IsNoSeal seals.head × TellsMistake done before after left)
+      ⊎ ((expected : Option (List ℕ)) × IsExpected seals.head expected
+      × TellsWhat voice.Lines (HasJudged files seals.torn words expected) done before after failed left)
+
   -- The items of a file with this name are shown, and printed as far as they could be; or it is refused.
   abbrev pub RunsShow : List ℕ → ShowOptions → Did F M E → List ℕ → List ℕ → Bool → Status → Type 0
   RunsShow name options (did.Shown f) before after failed left = (name_of f ≡ name)
@@ -158,6 +195,7 @@ module _ {F M E : Type 0} (made : M → List ℕ × List ℕ) (lacked : E → Bo
   abbrev pub RunsJob : Job → Did F M E → List ℕ → List ℕ → Bool → Status → Type 0
   RunsJob (Check files seconds words) done before after failed left = RunsCheck files seconds words done before after failed left
   RunsJob (Search files search words) done before after failed left = RunsSearch files search words done before after failed left
+  RunsJob (Judge files judging seals) done before after failed left = RunsJudge files judging seals done before after failed left
   RunsJob (Chain folder budget seconds quiet leaves witnesses) done before after failed left = Unit {0}
   RunsJob (Show file options) done before after failed left = RunsShow file.now options done before after failed left
   RunsJob (Write hex out) done before after failed left = RunsWrite hex.now out.now done before after failed left

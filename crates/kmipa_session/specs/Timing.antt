@@ -3,14 +3,14 @@ use Rattle.std.specs.Prelude.{◌≡◌, ◌<◌, ◌++◌, ◌||◌, ℕ, List,
 use Rattle.serde_json.specs.Data.{no_members, object, put, string}
 use Rattle.kmipa_json.specs.Told.{line_of}
 use Rattle.kmipa_ttlv.specs.Input.{is_failed}
-use Rattle.kmipa_runs.specs.Searches.{found_text}
-use Rattle.kmipa_runs.specs.Statuses.{IsSilent}
-use Rattle.kmipa_runs.specs.declared.status.Status.{Status}
-use Rattle.kmipa_runs.specs.declared.status.Status.TheVariants as status
-use Rattle.kmipa_search.specs.declared.found.Found.TheVariants as found
-use Rattle.kmipa_telling.specs.GivingUp.{decision_line}
-use Rattle.kmipa_telling.specs.JsonSearches.{decision_members, steps_members}
-use Rattle.kmipa_telling.specs.declared.judged.Decision.TheVariants as decision
+use Rattle.kmipa_searches.specs.Searches.{found_text}
+use Rattle.kmipa_jobs.specs.Statuses.{IsSilent}
+use Rattle.kmipa_jobs.specs.declared.status.Status.{Status}
+use Rattle.kmipa_jobs.specs.declared.status.Status.TheVariants as status
+use Rattle.kmipa_orders.specs.declared.found.Found.TheVariants as found
+use Rattle.kmipa_searches.specs.GivingUp.{decision_line}
+use Rattle.kmipa_searches.specs.JsonSearches.{decision_members, steps_members}
+use Rattle.kmipa_searches.specs.declared.judged.Decision.TheVariants as decision
 use Rattle.kmipa_session.specs.Sealing.{SaysOf}
 use Rattle.kmipa_session.specs.Worlds.{input_of}
 use Rattle.kmipa_session.specs.declared.did.Said.{Said}

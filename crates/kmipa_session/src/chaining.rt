@@ -2,7 +2,7 @@
 
 ghost use Rattle.std.specs.Prelude.{◌≡◌, ◌≢◌, ◌≤◌, None, IfOk, IfSome, length};
 ghost use Rattle.kmipa_record.specs.Declarations.{AreDeclared, declaration_of};
-ghost use Rattle.kmipa_runs.specs.declared.status.Status.{Status};
+ghost use Rattle.kmipa_jobs.specs.declared.status.Status.{Status};
 ghost use Rattle.kmipa_segments.specs.Chaining.{AreNextOf, IsKept};
 ghost use Rattle.kmipa_session.specs.Keeping.{AreNextKept, IsKeptAs, IsNextKept};
 
@@ -13,8 +13,8 @@ use crate::printing::tell;
 use crate::telling::refuse;
 use crate::voice::Voice;
 use crate::world::{Content, NO_LIMIT, Out, World};
+use kmipa_jobs::Status;
 use kmipa_links::Links;
-use kmipa_runs::Status;
 use kmipa_segments::{
     Chain, Link, NextSearch, chain_end, chain_out_of_time, chain_witness, sealed_line,
 };

@@ -1,26 +1,25 @@
 //! Checks of files: of whole ones, in each form, or of a segment.
 
 ghost use Rattle.std.specs.Prelude.{◌≡◌, ◌⊎◌, [], IfOk, MatchResult};
-ghost use Rattle.kmipa_runs.specs.declared.status.Status.{Status};
-ghost use Rattle.kmipa_session.specs.Jobs.{IsNoMoment, IsSince};
+ghost use Rattle.kmipa_jobs.specs.declared.status.Status.{Status};
+ghost use Rattle.kmipa_session.specs.Since.{IsNoMoment, IsSince};
 ghost use Rattle.kmipa_session.specs.Sealing.{IsOpenedAs};
 ghost use Rattle.kmipa_session.specs.Timing.{have_failed};
 ghost use Rattle.kmipa_session.specs.Worlds.{input_of, name_of};
 ghost use Rattle.kmipa_ttlv.specs.Input.{came_of};
 ghost use Rattle.kmipa_session.specs.Sessions.{HasChecked, HasCheckedSegment, IsMadeAsAsked, IsRefused, IsUntold, RunsAskedCheck, RunsCheck, TellsWhat};
 ghost use Rattle.kmipa_session.specs.Printing.{voice_of};
-ghost use Rattle.kmipa_session.specs.declared.job.Asked.TheVariants.{Segment};
+ghost use Rattle.kmipa_jobs.specs.declared.job.Asked.TheVariants.{Segment};
 ghost use Rattle.kmipa_session.specs.declared.voice.Voice.TheVariants.{Lines};
 
 use crate::did::{Did, Said, Session};
-use crate::job::{AnswerWords, Asked, CheckFiles, Form, SegmentWords, asked_of};
 use crate::named::Named;
 use crate::sealing::{NoSeal, expected_of, say_seals};
 use crate::telling::{tell_done, tell_mixed, tell_no_seal};
 use crate::timing::say_in_time;
 use crate::voice::{Voice, voice_of};
 use crate::world::{Content, Out, World};
-use kmipa_runs::Status;
+use kmipa_jobs::{AnswerWords, Asked, CheckFiles, Form, SegmentWords, Status, asked_of};
 use kmipa_segments::{SegmentAsked, read_moment};
 use std::alloc::Global;
 use std::io::Read;

@@ -1,7 +1,7 @@
 //! What a session did.
 
 use crate::named::Named;
-use kmipa_runs::Status;
+use kmipa_jobs::Status;
 
 /// What was done for the words: the files that were read, and those that were made.
 #[derive(Drop)]
@@ -16,6 +16,8 @@ pub enum Did<'n, F, M, E> {
     Searched(Named<'n, F>, Named<'n, F>, Option<M>),
     /// A witness of a segment's files was looked for, and perhaps made, and perhaps the declaration of what it leaves too.
     SearchedSegment(Named<'n, F>, Named<'n, F>, Option<M>, Option<M>),
+    /// A transcript was judged, by a declaration where one was given, and perhaps a witness was made, and the declaration that was used.
+    Judged(Named<'n, F>, Option<Named<'n, F>>, Option<M>, Option<M>),
     /// The items of a file were shown.
     Shown(Named<'n, F>),
     /// A file of digits was read, and perhaps one of items made.

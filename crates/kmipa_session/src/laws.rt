@@ -3,8 +3,8 @@
 ghost use Rattle.std.specs.Prelude.{◌≡◌, ◌++◌, ℕ, List, Option};
 ghost use Rattle.kmipa_record.specs.declared.head.Head.{Head};
 ghost use Rattle.kmipa_record.specs.declared.torn.Torn.{Torn};
-ghost use Rattle.kmipa_runs.specs.declared.status.Status.{Status};
-ghost use Rattle.kmipa_runs.specs.declared.status.Status.TheVariants.{Done};
+ghost use Rattle.kmipa_jobs.specs.declared.status.Status.{Status};
+ghost use Rattle.kmipa_jobs.specs.declared.status.Status.TheVariants.{Done};
 ghost use Rattle.kmipa_session.specs.Sealing.{IsKnownAsExpected, KnownAsTold, KnowsTold, SaysSeals, sealed_line};
 ghost use Rattle.kmipa_session.specs.declared.voice.Voice.{Voice};
 

@@ -5,7 +5,8 @@ mod chaining;
 mod checking;
 mod did;
 mod folder;
-mod job;
+mod judged;
+mod judging;
 mod laws;
 mod named;
 mod printing;
@@ -22,10 +23,6 @@ mod world;
 
 pub use did::{Did, Said, Session};
 pub use folder::{AskedFor, Folder, FolderSegment};
-pub use job::{
-    AnswerWords, Asked, CheckFiles, Form, FormWords, Job, SealWords, SearchFiles, SearchWords,
-    SegmentWords,
-};
 pub use laws::done_tells_its_head;
 pub use named::Named;
 pub use printing::{tell, tell_refusal};

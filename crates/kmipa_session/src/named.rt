@@ -1,17 +1,19 @@
 //! A file that was opened by its name, and the runs over such files.
 
 use crate::did::Said;
-use crate::job::{Form, SearchWords};
+use crate::judged::{JudgedFiles, judged_files};
 use crate::ran::{Ran, told_of};
 use crate::runs::{
     check_explained, check_explained_object, check_left, check_lines, check_object,
     search_explained, search_left, search_lines, search_object, write_items,
 };
 use crate::sealing::own_length;
+use kmipa_jobs::{Form, JudgeWords, SearchWords, ShowOptions, Status};
+use kmipa_judge::{judge_alone_run, judge_run};
 use kmipa_links::Links;
+use kmipa_orders::Watch;
 use kmipa_record::Torn;
-use kmipa_runs::{Printer, ShowOptions, Status, Unprinted, show_run};
-use kmipa_search::Watch;
+use kmipa_runs::{Printer, Unprinted, show_run};
 use kmipa_segments::{
     Chain, Link, NextSearch, SegmentAsked, chain_begin, chain_check, chain_compare, chain_link,
     chain_search,
@@ -33,14 +35,15 @@ impl<'n, R: Read> Named<'n, R> {
     ghost use Rattle.std.specs.Prelude.{◌≡◌, ◌≢◌, ◌⊎◌, ℕ, List, [], IsTrue, IfErr, IfOk, OnErr, OnOk, Result, Some, None};
     ghost use Rattle.std.specs.Io.{StartsWith, appended_bytes};
     ghost use Rattle.kmipa_ttlv.specs.Input.{came_of, is_ended, is_failed, IsFileOf};
+    ghost use Rattle.kmipa_judge.specs.Runs.{JudgesFiles};
     ghost use Rattle.kmipa_runs.specs.Inputs.{Writes};
     ghost use Rattle.kmipa_record.specs.Declarations.{AreDeclared, DeclarationFault, DeclarationOf, IsDeclaration, IsDeclarationUpTo, declaration_of};
     ghost use Rattle.kmipa_record.specs.Files.{Tells};
     ghost use Rattle.kmipa_record.specs.declared.fault.RecordFault.{RecordFault};
     ghost use Rattle.kmipa_check.specs.declared.auditing.AuditFault.{AuditFault};
     ghost use Rattle.kmipa_runs.specs.Lines.{PrintsFault};
-    ghost use Rattle.kmipa_runs.specs.Statuses.{IsSilent};
-    ghost use Rattle.kmipa_runs.specs.declared.status.Status.{Status};
+    ghost use Rattle.kmipa_jobs.specs.Statuses.{IsSilent};
+    ghost use Rattle.kmipa_jobs.specs.declared.status.Status.{Status};
     ghost use Rattle.kmipa_segments.specs.Chaining.{IsChain, IsKeptNext, IsNextOf};
     ghost use Rattle.kmipa_segments.specs.Chains.{ChecksNext, IsNamed, PrintsJudged, SearchesNext, TellsChecked, TellsSearched};
     ghost use Rattle.kmipa_segments.specs.Comparing.{ComparesFile, Fits, PrintsCompared};
@@ -219,6 +222,54 @@ impl<'n, R: Read> Named<'n, R> {
             watch,
         );
         (told_of(torn, ran), made, left)
+    }
+
+    /// Judges a transcript by a declaration, and answers with what is said the bytes of what is made.
+    pub fn judge<W: Watch + Drop>(
+        alloc: Global,
+        words: JudgeWords,
+        transcript: &mut Named<'_, R>,
+        declaration: &mut Named<'_, R>,
+        watch: W,
+    ) -> JudgedFiles
+        requires transcript { came_of (input_of transcript.old) ≡ [] }
+        requires declaration { came_of (input_of declaration.old) ≡ [] }
+        ensures judges { JudgesFiles (W.seconds watch) (input_of transcript.new) (Some (input_of declaration.new))
+            result.ran.status result.ran.lines.items result.witness.items result.used.items }
+        ensures known { KnowsTold (torn_of transcript.new) (came_of (input_of transcript.new)) result.ran.status
+            result.ran.head }
+        ensures torn { torn_of transcript.new ≡ torn_of transcript.old }
+        ensures transcript { name_of transcript.new ≡ name_of transcript.old }
+        ensures declaration { name_of declaration.new ≡ name_of declaration.old }
+    {
+        let torn = transcript.torn;
+        let run = judge_run(
+            alloc,
+            &mut transcript.input,
+            &mut declaration.input,
+            words.budget,
+            watch,
+        );
+        judged_files(torn, run)
+    }
+
+    /// Judges a transcript where no declaration is given.
+    pub fn judge_alone<W: Watch + Drop>(
+        &mut self,
+        alloc: Global,
+        words: JudgeWords,
+        watch: W,
+    ) -> JudgedFiles
+        requires { came_of (input_of self.old) ≡ [] }
+        ensures judges { JudgesFiles (W.seconds watch) (input_of self.new) None result.ran.status result.ran.lines.items
+            result.witness.items result.used.items }
+        ensures known { KnowsTold (torn_of self.new) (came_of (input_of self.new)) result.ran.status result.ran.head }
+        ensures torn { torn_of self.new ≡ torn_of self.old }
+        ensures name { name_of self.new ≡ name_of self.old }
+    {
+        let torn = self.torn;
+        let run = judge_alone_run(alloc, &mut self.input, words.budget, watch);
+        judged_files(torn, run)
     }
 
     /// Prints the items of the file.

@@ -1,12 +1,13 @@
 //! What is printed, and the status that is left of it.
 
 ghost use Rattle.std.specs.Prelude.{◌≡◌, IfOk, OnErr};
-ghost use Rattle.kmipa_runs.specs.declared.status.Status.{Status};
+ghost use Rattle.kmipa_jobs.specs.declared.status.Status.{Status};
 ghost use Rattle.kmipa_session.specs.Printing.{TellsLines, TellsRest, TellsTrouble, text_of, trouble_text};
 
 use crate::voice::{Voice, device_text, memory_text};
 use crate::world::{Out, World};
-use kmipa_runs::{Status, Unprinted};
+use kmipa_jobs::Status;
+use kmipa_runs::Unprinted;
 
 /// Prints what came of a run, and answers its status, or `Failed` where that can't be printed.
 pub fn tell<O: Out>(out: &mut O, voice: Voice, lines: &[u8], status: Status) -> Status

@@ -4,8 +4,8 @@ ghost use Rattle.std.specs.Prelude.{◌≡◌, ℕ, List};
 ghost use Rattle.kmipa_runs.specs.Knowing.{KnowsSeals};
 ghost use Rattle.kmipa_session.specs.Sealing.{IsWithoutClose, KnowsTold};
 
+use kmipa_jobs::Status;
 use kmipa_record::{Head, Torn};
-use kmipa_runs::Status;
 
 /// What a run over a transcript said: its status, its lines, and behind a verdict the head of a sealed transcript.
 #[derive(Drop)]

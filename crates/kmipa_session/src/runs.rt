@@ -4,23 +4,26 @@ ghost use Rattle.std.specs.Prelude.{◌≡◌, []};
 ghost use Rattle.kmipa_ttlv.specs.Input.{came_of, is_failed};
 ghost use Rattle.kmipa_runs.specs.Inputs.{Writes};
 ghost use Rattle.kmipa_runs.specs.Knowing.{KnowsSeals};
-ghost use Rattle.kmipa_session.specs.Checks.{ChecksExplained, ChecksExplainedInJson, ChecksInJson, ChecksInLines, ChecksInSegment};
+ghost use Rattle.kmipa_beside.specs.Checks.{ChecksAny};
+ghost use Rattle.kmipa_session.specs.Checks.{ChecksExplained, ChecksExplainedInJson, ChecksInJson, ChecksInSegment};
 ghost use Rattle.kmipa_session.specs.Searches.{SearchesExplained, SearchesInJson, SearchesInLines, SearchesInSegment};
 
 use crate::did::Said;
-use crate::job::SearchWords;
 use crate::ran::Ran;
-use kmipa_runs::{check_run, search_run, write_run};
-use kmipa_search::Watch;
+use kmipa_beside::check_any_run;
+use kmipa_jobs::SearchWords;
+use kmipa_orders::Watch;
+use kmipa_runs::write_run;
+use kmipa_searches::{explain_search_run, search_json, search_run};
 use kmipa_segments::{
     CheckOutput, SearchAsked, SearchOutput, SegmentAsked, search_segment_run, segment_run,
 };
-use kmipa_telling::{check_json, explain_json, explain_run, explain_search_run, search_json};
+use kmipa_telling::{check_json, explain_json, explain_run};
 use kmipa_ttlv::Input;
 use std::alloc::Global;
 use std::io::Read;
 
-/// Checks three inputs, and tells it in lines.
+/// Checks three inputs, whatever their declaration sets aside, and tells it in lines.
 pub fn check_lines<R: Read>(
     alloc: Global,
     transcript: &mut Input<R>,
@@ -30,11 +33,11 @@ pub fn check_lines<R: Read>(
     requires transcript { came_of transcript.old ≡ [] }
     requires declaration { came_of declaration.old ≡ [] }
     requires witness { came_of witness.old ≡ [] }
-    ensures told { ChecksInLines transcript.new declaration.new witness.new result.status result.lines.items }
+    ensures told { ChecksAny transcript.new declaration.new witness.new result.status result.lines.items }
     ensures known { KnowsSeals (came_of transcript.new) result.status result.head }
 {
     let mut lines = Vec::new(alloc);
-    let answered = check_run(alloc, transcript, declaration, witness, &mut lines);
+    let answered = check_any_run(alloc, transcript, declaration, witness, &mut lines);
     Ran {
         status: answered.status,
         lines,

@@ -1,17 +1,16 @@
 //! What is said of the seals of a transcript behind what a run said of its calls.
 
 ghost use Rattle.std.specs.Prelude.{◌≡◌, ◌⊎◌, ◌++◌, IfOk, MatchResult, OnOk, true, Some, string_bytes};
-ghost use Rattle.kmipa_runs.specs.Statuses.{IsSilent};
+ghost use Rattle.kmipa_jobs.specs.Statuses.{IsSilent};
 ghost use Rattle.kmipa_session.specs.Sealing.{IsExpected, IsNoSeal, SaysSeals, is_verdict, other_head_text, own_length, sealed_line, told_line};
-ghost use Rattle.kmipa_runs.specs.declared.status.Status.{Status};
+ghost use Rattle.kmipa_jobs.specs.declared.status.Status.{Status};
 
 use crate::did::Said;
 use crate::ran::Ran;
 use crate::voice::Voice;
+use kmipa_jobs::Status;
 use kmipa_record::{Head, Torn};
-use kmipa_runs::{
-    Status, has_seal, head_line, other_head_line, other_head_object, read_seal, torn_line,
-};
+use kmipa_runs::{has_seal, head_line, other_head_line, other_head_object, read_seal, torn_line};
 use std::alloc::{AllocError, Global};
 
 /// A word that spells no seal.
@@ -102,7 +101,7 @@ fn say_expected(
 }
 
 /// Whether a status is that of a verdict.
-fn is_verdict(status: Status) -> bool
+pub fn is_verdict(status: Status) -> bool
     ensures { result ≡ is_verdict status }
 {
     match status {

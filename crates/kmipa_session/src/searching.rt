@@ -3,18 +3,19 @@
 ghost use Rattle.std.specs.Prelude.{◌≡◌, ◌⊎◌, IfOk};
 ghost use Rattle.kmipa_session.specs.Sessions.{HasSearched, HasSearchedSegment, IsMade, IsMadeAsAsked, IsRefused, IsUntold, RunsAskedSearch, RunsSearch, TellsWhat};
 ghost use Rattle.kmipa_session.specs.Printing.{voice_of};
-ghost use Rattle.kmipa_session.specs.declared.job.Asked.TheVariants.{Segment};
+ghost use Rattle.kmipa_jobs.specs.declared.job.Asked.TheVariants.{Segment};
 ghost use Rattle.kmipa_session.specs.declared.voice.Voice.TheVariants.{Lines};
 
 use crate::checking::{NoMoment, mistaken, moment_of, open_transcript, test_leaves, test_left};
 use crate::did::{Did, Said, Session};
-use crate::job::{AnswerWords, Asked, Form, SearchFiles, SearchWords, SegmentWords, asked_of};
 use crate::named::Named;
 use crate::sealing::{NoSeal, expected_of, say_seals};
 use crate::telling::{tell_done, tell_mixed, tell_no_seal};
 use crate::voice::{Voice, voice_of};
 use crate::world::{Content, NO_LIMIT, Out, World};
-use kmipa_runs::Status;
+use kmipa_jobs::{
+    AnswerWords, Asked, Form, SearchFiles, SearchWords, SegmentWords, Status, asked_of,
+};
 use kmipa_segments::SegmentAsked;
 use std::alloc::Global;
 

@@ -6,10 +6,11 @@ ghost use Rattle.kmipa_session.specs.Sessions.{RunsJob};
 use crate::chaining::{ChainWords, run_chain};
 use crate::checking::run_check;
 use crate::did::Session;
-use crate::job::Job;
+use crate::judging::{JudgeJob, run_judge};
 use crate::searching::{SearchJob, run_search};
 use crate::showing::{run_show, run_write};
 use crate::world::{Out, World};
+use kmipa_jobs::Job;
 use std::alloc::Global;
 
 /// Opens the files of a job, in the order in which they were named, makes those that it makes, prints its lines, and answers the status to end
@@ -41,6 +42,18 @@ pub fn run_job<'n, W: World, O: Out>(
                 words,
             };
             run_search(alloc, world, out, asked, watched)
+        }
+        Job::Judge {
+            files,
+            judging,
+            seals,
+        } => {
+            let asked = JudgeJob {
+                files,
+                judging,
+                seals,
+            };
+            run_judge(alloc, world, out, asked, watched)
         }
         Job::Chain {
             folder,

@@ -11,7 +11,7 @@ use crate::searching::make_when_done;
 use crate::telling::{refuse, tell_done};
 use crate::voice::Voice;
 use crate::world::{NO_LIMIT, Out, World};
-use kmipa_runs::{ShowOptions, Status};
+use kmipa_jobs::{ShowOptions, Status};
 use std::alloc::Global;
 
 /// Prints the items of a file.

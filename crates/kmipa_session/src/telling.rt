@@ -9,7 +9,7 @@ use crate::did::{Did, Said, Session};
 use crate::printing::{tell, tell_refusal};
 use crate::voice::Voice;
 use crate::world::{Out, World};
-use kmipa_runs::Status;
+use kmipa_jobs::Status;
 
 /// Prints the lines of what was done, or of a refusal.
 pub fn tell_done<'n, W: World, O: Out>(

@@ -1,15 +1,15 @@
 //! What is said where the seconds of a check are over.
 
 ghost use Rattle.std.specs.Prelude.{◌≡◌, ◌<◌, ◌⊎◌, IfOk, IsTrue, string_bytes};
-ghost use Rattle.kmipa_runs.specs.Statuses.{IsSilent};
-ghost use Rattle.kmipa_runs.specs.declared.status.Status.{Status};
+ghost use Rattle.kmipa_jobs.specs.Statuses.{IsSilent};
+ghost use Rattle.kmipa_jobs.specs.declared.status.Status.{Status};
 ghost use Rattle.kmipa_session.specs.Timing.{EndsInTime, over_lines, over_object, over_text};
 
 use crate::did::Said;
 use crate::voice::Voice;
 use crate::world::World;
+use kmipa_jobs::Status;
 use kmipa_json::JsonObject;
-use kmipa_runs::Status;
 use kmipa_telling::VERSION;
 use std::alloc::{AllocError, Global};
 

@@ -3,7 +3,7 @@
 ghost use Rattle.std.specs.Prelude.{◌≡◌};
 ghost use Rattle.kmipa_session.specs.Printing.{device_text, memory_text, voice_of};
 
-use crate::job::Form;
+use kmipa_jobs::Form;
 
 /// Whether lines are printed, or an object.
 #[derive(Clone, Copy, PartialEq, Eq)]

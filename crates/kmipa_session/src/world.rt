@@ -6,8 +6,8 @@ ghost use Rattle.kmipa_session.specs.Worlds.{input_of, name_of, torn_of};
 
 use crate::folder::Folder;
 use crate::named::Named;
+use kmipa_orders::Watch;
 use kmipa_runs::Printer;
-use kmipa_search::Watch;
 use std::io::Read;
 
 /// The seconds of a file that may be read at any time.

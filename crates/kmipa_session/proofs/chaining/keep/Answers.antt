@@ -1,6 +1,6 @@
 use Rattle.std.proofs.Common.{◌≡◌, ◌∙◌, List, ℕ, ap, rules, subst, sym}
 use Rattle.std.specs.Io.{appended_bytes}
-use Rattle.kmipa_runs.specs.declared.status.Status.TheVariants.{Done}
+use Rattle.kmipa_jobs.specs.declared.status.Status.TheVariants.{Done}
 use Rattle.kmipa_segments.specs.Chaining.{IsKept}
 use Rattle.kmipa_session.proofs.chaining.keep.Goals as goal
 

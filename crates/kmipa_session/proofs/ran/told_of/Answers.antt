@@ -1,6 +1,6 @@
 use Rattle.std.proofs.Common.{Option, Some, sym, subst}
 use Rattle.kmipa_record.specs.declared.torn.Torn.{Torn}
-use Rattle.kmipa_runs.specs.declared.status.Status.{Status}
+use Rattle.kmipa_jobs.specs.declared.status.Status.{Status}
 use Rattle.kmipa_session.specs.Sealing.{KnowsTold}
 use Rattle.kmipa_session.proofs.SealingLemmas.{torn_told}
 use Rattle.kmipa_session.proofs.ran.told_of.Goals as goal
