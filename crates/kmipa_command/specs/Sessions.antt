@@ -3,16 +3,16 @@ use Rattle.std.specs.Prelude.{◌≡◌, ◌≢◌, ◌⊎◌, ℕ, List, Bool, 
 use Rattle.std.specs.declared.io.ErrorKind.{ErrorKind}
 use Rattle.std.specs.declared.io.ErrorKind.TheVariants.{OutOfMemory}
 use Rattle.clap.specs.Words.{subcommand_of, fault_of}
-use Rattle.kmipa_runs.specs.declared.status.Status.{Status}
-use Rattle.kmipa_runs.specs.declared.status.Status.TheVariants as status
+use Rattle.kmipa_jobs.specs.declared.status.Status.{Status}
+use Rattle.kmipa_jobs.specs.declared.status.Status.TheVariants as status
 use Rattle.kmipa_session.specs.Printing.{TellsLines}
 use Rattle.kmipa_session.specs.Sessions.{RunsJob, TellsMistake}
 use Rattle.kmipa_session.specs.declared.did.Did.{Did}
 use Rattle.kmipa_session.specs.declared.did.Did.TheVariants as did
-use Rattle.kmipa_session.specs.declared.job.Job.{Job}
+use Rattle.kmipa_jobs.specs.declared.job.Job.{Job}
 use Rattle.kmipa_session.specs.declared.voice.Voice.TheVariants.{Lines}
-use Rattle.kmipa_command.specs.Words.{IsJob, IsTold, program_app}
-use Rattle.kmipa_command.specs.declared.words.Usage.{Usage}
+use Rattle.kmipa_words.specs.Words.{IsJob, IsTold, program_app}
+use Rattle.kmipa_words.specs.declared.words.Usage.{Usage}
 
 -- an error that tells of want of memory, and not of a device
 abbrev pub is_memory : ErrorKind → Bool

@@ -1,4 +1,4 @@
-//! The command line: words come in, files are read and written, and lines go out.
+//! The world that the process is in, and a session in it: words are read, files are read and written, and lines go out.
 #![tactic(auto)]
 
 mod files;
@@ -10,7 +10,6 @@ mod progress;
 mod replacing;
 mod session;
 mod time_limit;
-mod words;
 
 pub use held_file::HeldFile;
 pub use host::{Host, MadeFile};

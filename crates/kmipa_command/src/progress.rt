@@ -3,7 +3,7 @@
 ghost use Rattle.std.specs.Prelude.{◌≡◌};
 
 use crate::time_limit::are_over;
-use kmipa_search::Watch;
+use kmipa_orders::Watch;
 use std::rt::Clock;
 use std::time::Instant;
 
@@ -73,6 +73,17 @@ impl<'a, R: Clock + Eprint> Progress<'a, R> {
         }
     }
 
+    /// Whether the seconds are over, as far as is known. Where no step was reported yet, nobody has looked at the clock.
+    fn is_late(&self) -> bool {
+        if self.steps > 0 || self.seconds == 0 {
+            return self.is_over;
+        }
+        match Instant::now(self.rt) {
+            Ok(now) => are_over(self.began, now, self.seconds),
+            Err(_) => self.is_over,
+        }
+    }
+
     /// Tells how far the search got. Where standard error can't be written there is nothing left to say.
     fn tell(&self, steps: u64, taken: usize) {
         let budget = self.budget;
@@ -101,7 +112,7 @@ impl<'a, R: Clock + Eprint> Watch for Progress<'a, R> {
     fn given_back(&mut self) {}
 
     fn over(&self) -> Option<u64> {
-        if self.is_over && self.seconds > 0 {
+        if self.is_late() && self.seconds > 0 {
             Some(self.seconds)
         } else {
             None

@@ -1,14 +1,14 @@
 //! A session: words come in, files are read and written, and lines go out.
 
 ghost use Rattle.std.specs.Prelude.{◌≡◌, ◌⊎◌, map};
-ghost use Rattle.kmipa_runs.specs.declared.status.Status.{Status};
+ghost use Rattle.kmipa_jobs.specs.declared.status.Status.{Status};
 ghost use Rattle.kmipa_command.specs.Sessions.{Runs, TellsUsage};
 
 use crate::host::Host;
 use crate::output::Output;
-use crate::words::{Usage, read_words};
-use kmipa_runs::Status;
+use kmipa_jobs::Status;
 use kmipa_session::{Did, Out, Session, Voice, World, run_job, tell, tell_refusal};
+use kmipa_words::{Usage, read_words};
 use std::alloc::Global;
 use std::convert::AsStr;
 use std::os::fd::AsFd;

@@ -1,4 +1,0 @@
-use Rattle.kmipa_command.proofs.words.answer_of.Goals as goal
-
-pub returns : goal.returns
-returns c = (c.form_of.ensures, c.segment_of.ensures, c.seals_of.ensures)
