@@ -3,8 +3,9 @@
 use super::check;
 use super::reading::{declared, transcript_of};
 use super::spelled::*;
+use kmipa_orders::{Found, Unwatched};
 use kmipa_record::{Begin, End, Mark, Transcript};
-use kmipa_search::{Found, Unwatched, search, search_open};
+use kmipa_search::{search, search_open};
 use std::alloc::Global;
 use std::process::Abort;
 

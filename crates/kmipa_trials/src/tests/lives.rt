@@ -3,8 +3,9 @@
 use super::check;
 use super::reading::declared;
 use super::spelled::*;
+use kmipa_orders::Found;
 use kmipa_record::{Begin, End, Mark, Transcript};
-use kmipa_search::{Found, search};
+use kmipa_search::search;
 use std::alloc::Global;
 use std::process::Abort;
 

@@ -2,14 +2,14 @@
 
 use super::check;
 use super::spelled::bytes_of;
-use kmipa_passed::SetAside;
+use kmipa_passed::{Held, SetAside, leaves};
 use kmipa_places::{By, Call, Place, Readable, read_call};
 use kmipa_ttlv::{Item, Tag, Value, View, decode, lend};
 use std::alloc::Global;
 use std::process::Abort;
 
 // A message: the fields of its header in digits, its Batch Count, and its items in digits.
-type Spelled = (&'static [&'static str], i32, &'static [&'static str]);
+pub(crate) type Spelled = (&'static [&'static str], i32, &'static [&'static str]);
 
 // What a call is, its request and its response, what the witness sets aside, and what is told of it: J for a place that is judged, and R, A or W for
 // one that is passed by its request, its answer or the witness; or what it leaves where it can't be read.
@@ -21,28 +21,28 @@ type Row = (
     &'static str,
 );
 
-const VERSION_2_1: &str = "\
+pub(crate) const VERSION_2_1: &str = "\
     420069010000002042006A0200000004000000020000000042006B02000000040000000100000000";
 
-const GET_K1: &str = "\
+pub(crate) const GET_K1: &str = "\
     42000F010000002842005C05000000040000000A00000000420079010000001042009407000000026B310000000000\
     00";
 
-const STAMP: &str = "4200920900000008000000006553F100";
+pub(crate) const STAMP: &str = "4200920900000008000000006553F100";
 
-const GOT_K1: &str = "\
+pub(crate) const GOT_K1: &str = "\
     42000F01000000A842005C05000000040000000A0000000042007F0500000004000000000000000042007C01000000\
     804200570500000004000000020000000042009407000000026B3100000000000042008F0100000058420040010000\
     00504200420500000004000000010000000042004501000000184200430800000010000102030405060708090A0B0C\
     0D0E0F4200280500000004000000030000000042002A02000000040000008000000000";
 
-const QUERY: &str = "42000F010000001842005C050000000400000018000000004200790100000000";
+pub(crate) const QUERY: &str = "42000F010000001842005C050000000400000018000000004200790100000000";
 
-const QUERIED: &str = "\
+pub(crate) const QUERIED: &str = "\
     42000F010000002842005C0500000004000000180000000042007F0500000004000000000000000042007C01000000\
     00";
 
-const REKEY_K1: &str = "\
+pub(crate) const REKEY_K1: &str = "\
     42000F010000002842005C05000000040000000400000000420079010000001042009407000000026B310000000000\
     00";
 
@@ -52,11 +52,11 @@ const REKEY_FAILED: &str = "\
 
 const OPTION_1: &str = "42000E05000000040000000100000000";
 
-const UNORDERED: &str = "42001006000000080000000000000000";
+pub(crate) const UNORDERED: &str = "42001006000000080000000000000000";
 
 const LOCATE: &str = "42000F010000001842005C050000000400000008000000004200790100000000";
 
-const STATE_OF_K1: &str = "\
+pub(crate) const STATE_OF_K1: &str = "\
     42000F010000003842005C05000000040000000B00000000420079010000002042009407000000026B310000000000\
     0042013B05000000040042008D00000000";
 
@@ -68,11 +68,11 @@ const NO_STATE_OF_K1: &str = "\
     42000F010000003842005C05000000040000000B0000000042007F0500000004000000000000000042007C01000000\
     1042009407000000026B31000000000000";
 
-const GET_HELD: &str = "\
+pub(crate) const GET_HELD: &str = "\
     42000F010000002842005C05000000040000000A000000004200790100000010420094050000000400000001000000\
     00";
 
-const GET_FAILED: &str = "\
+pub(crate) const GET_FAILED: &str = "\
     42000F010000003042005C05000000040000000A0000000042007F0500000004000000010000000042007E05000000\
     040000000100000000";
 
@@ -141,11 +141,11 @@ const CREATED_C: &str = "\
     42000F010000003842005C0500000004000000010000000042007F0500000004000000000000000042007C01000000\
     1042009407000000016300000000000000";
 
-const GET_K1_WRAPPED: &str = "\
+pub(crate) const GET_K1_WRAPPED: &str = "\
     42000F010000003042005C05000000040000000A00000000420079010000001842009407000000026B310000000000\
     004200470100000000";
 
-const ACTIVATE_K1: &str = "\
+pub(crate) const ACTIVATE_K1: &str = "\
     42000F010000002842005C05000000040000001200000000420079010000001042009407000000026B310000000000\
     00";
 
@@ -167,19 +167,20 @@ const REGISTER_OPAQUE: &str = "\
     42000F010000002842005C050000000400000003000000004200790100000010420057050000000400000008000000\
     00";
 
-const GET_AS_A_TEXT: &str = "42000F010000001842005C070000000347657400000000004200790100000000";
+pub(crate) const GET_AS_A_TEXT: &str =
+    "42000F010000001842005C070000000347657400000000004200790100000000";
 
-const DONE_GET: &str = "\
+pub(crate) const DONE_GET: &str = "\
     42000F010000002842005C05000000040000000A0000000042007F0500000004000000000000000042007C01000000\
     00";
 
-const POLL: &str = "42000F010000001842005C05000000040000001A000000004200790100000000";
+pub(crate) const POLL: &str = "42000F010000001842005C05000000040000001A000000004200790100000000";
 
-const REKEYED_AS_Z: &str = "\
+pub(crate) const REKEYED_AS_Z: &str = "\
     42000F010000003842005C0500000004000000040000000042007F0500000004000000000000000042007C01000000\
     1042009407000000017A00000000000000";
 
-const STATE_AS_A_NUMBER: &str = "\
+pub(crate) const STATE_AS_A_NUMBER: &str = "\
     42000F010000005042005C05000000040000000B0000000042007F0500000004000000000000000042007C01000000\
     2842009407000000026B31000000000000420125010000001042008D02000000040000000200000000";
 
@@ -191,30 +192,30 @@ const ATTRIBUTES_OF_3: &str = "\
     42000F010000003842005C05000000040000000B0000000042007F0500000004000000000000000042007C01000000\
     1042009405000000040000000300000000";
 
-const MAY_COME: &str = "42000706000000080000000000000001";
+pub(crate) const MAY_COME: &str = "42000706000000080000000000000001";
 
-const ACTIVATE_PENDING: &str = "\
+pub(crate) const ACTIVATE_PENDING: &str = "\
     42000F010000002042005C0500000004000000120000000042007F05000000040000000200000000";
 
-const OPERATION_AS_A_NUMBER: &str = "\
+pub(crate) const OPERATION_AS_A_NUMBER: &str = "\
     42000F010000002042005C0200000004000000010000000042007F05000000040000000000000000";
 
-const GET_K2: &str = "\
+pub(crate) const GET_K2: &str = "\
     42000F010000002842005C05000000040000000A00000000420079010000001042009407000000026B320000000000\
     00";
 
-const GOT_K2: &str = "\
+pub(crate) const GOT_K2: &str = "\
     42000F01000000A842005C05000000040000000A0000000042007F0500000004000000000000000042007C01000000\
     804200570500000004000000020000000042009407000000026B3200000000000042008F0100000058420040010000\
     00504200420500000004000000010000000042004501000000184200430800000010000102030405060708090A0B0C\
     0D0E0F4200280500000004000000030000000042002A02000000040000008000000000";
 
-const VERSION_1_0: &str = "\
+pub(crate) const VERSION_1_0: &str = "\
     420069010000002042006A0200000004000000010000000042006B02000000040000000000000000";
 
 const REFUSED: &str = "42000F010000001042007F05000000040000000100000000";
 
-const VERSION_2_0: &str = "\
+pub(crate) const VERSION_2_0: &str = "\
     420069010000002042006A0200000004000000020000000042006B02000000040000000000000000";
 
 const OPTION_3: &str = "42000E05000000040000000300000000";
@@ -235,7 +236,7 @@ const OPTION_4: &str = "42000E05000000040000000400000000";
 const GET_STATUS_4: &str = "\
     42000F010000002042005C05000000040000000A0000000042007F05000000040000000400000000";
 
-const ACTIVATE_NO_STATUS: &str = "42000F010000001042005C05000000040000001200000000";
+pub(crate) const ACTIVATE_NO_STATUS: &str = "42000F010000001042005C05000000040000001200000000";
 
 const REGISTER: &str = "\
     42000F010000008842005C050000000400000003000000004200790100000070420057050000000400000002000000\
@@ -263,6 +264,11 @@ const ACTIVATE_FAILED_BARE: &str = "\
 
 const GET_FAILED_BARE: &str = "\
     42000F010000002042005C05000000040000000A0000000042007F05000000040000000100000000";
+
+const ACTIVATED: &str = "\
+    42000F010000002042005C0500000004000000120000000042007F05000000040000000000000000";
+
+const REKEY: &str = "42000F010000001842005C050000000400000004000000004200790100000000";
 
 const JUDGED: [Row; 6] = [
     (
@@ -712,6 +718,67 @@ const SET_ASIDE: [Row; 3] = [
     ),
 ];
 
+// What the last place leaves, which isn't judged, where the ID Placeholder holds p.
+const PASSED: [Row; 7] = [
+    (
+        "a change of none in no order, and none is shown",
+        Some((&[VERSION_2_1, OPTION_1, UNORDERED], 2, &[CREATE, ACTIVATE])),
+        Some((&[VERSION_2_1, STAMP], 2, &[CREATED_C, ACTIVATED])),
+        &[],
+        "left: all",
+    ),
+    (
+        "a change of Enumeration 1 in no order, and none is shown",
+        Some((
+            &[VERSION_2_1, OPTION_1, UNORDERED],
+            2,
+            &[CREATE, ACTIVATE_HELD],
+        )),
+        Some((&[VERSION_2_1, STAMP], 2, &[CREATED_C, ACTIVATED])),
+        &[],
+        "left: all",
+    ),
+    (
+        "a change of none in no order, and one is shown",
+        Some((&[VERSION_2_1, OPTION_1, UNORDERED], 2, &[CREATE, ACTIVATE])),
+        Some((&[VERSION_2_1, STAMP], 2, &[CREATED_C, ACTIVATED_C])),
+        &[],
+        "left: c",
+    ),
+    (
+        "a change of one in no order, which is asked for and named",
+        Some((
+            &[VERSION_2_1, OPTION_1, UNORDERED],
+            2,
+            &[CREATE, ACTIVATE_K1],
+        )),
+        Some((&[VERSION_2_1, STAMP], 2, &[CREATED_C, ACTIVATED_C])),
+        &[2],
+        "left: k1 k1",
+    ),
+    (
+        "a change of none in order",
+        Some((&[VERSION_2_1, OPTION_1], 2, &[CREATE, ACTIVATE])),
+        Some((&[VERSION_2_1, STAMP], 2, &[CREATED_C, ACTIVATED_C])),
+        &[2],
+        "left: p",
+    ),
+    (
+        "a failed change of none in no order",
+        Some((&[VERSION_2_1, OPTION_1, UNORDERED], 2, &[CREATE, ACTIVATE])),
+        Some((&[VERSION_2_1, STAMP], 2, &[CREATED_C, ACTIVATE_FAILED])),
+        &[],
+        "left:",
+    ),
+    (
+        "a Re-key of none in no order",
+        Some((&[VERSION_2_1, OPTION_1, UNORDERED], 2, &[CREATE, REKEY])),
+        Some((&[VERSION_2_1, STAMP], 2, &[CREATED_C, REKEYED_AS_Z])),
+        &[],
+        "left: p z",
+    ),
+];
+
 // The item that digits spell.
 fn item_of(rt: &impl Abort, alloc: Global, digits: &str) -> Item {
     let bytes = bytes_of(rt, alloc, &[digits]);
@@ -727,7 +794,13 @@ fn tagged(rt: &impl Abort, tag: u32, value: Value) -> Item {
 }
 
 // The message that is spelled so, under these two tags.
-fn message_of(rt: &impl Abort, alloc: Global, spelled: &Spelled, tag: u32, header: u32) -> Item {
+pub(crate) fn message_of(
+    rt: &impl Abort,
+    alloc: Global,
+    spelled: &Spelled,
+    tag: u32,
+    header: u32,
+) -> Item {
     let mut fields = Vec::new(alloc);
     for digits in spelled.0 {
         fields.push(item_of(rt, alloc, digits)).expect(rt, "memory");
@@ -745,7 +818,7 @@ fn message_of(rt: &impl Abort, alloc: Global, spelled: &Spelled, tag: u32, heade
     tagged(rt, tag, Value::Structure(children))
 }
 
-fn view_of(message: &Option<Item>) -> Option<View<'_>> {
+pub(crate) fn view_of(message: &Option<Item>) -> Option<View<'_>> {
     match message {
         Some(item) => Some(lend(item)),
         None => None,
@@ -756,14 +829,16 @@ fn view_of(message: &Option<Item>) -> Option<View<'_>> {
 fn told_of(rt: &impl Abort, alloc: Global, call: &Call) -> String {
     let mut told = String::new(alloc);
     match call {
-        Call::Unread(left) => tell_left(rt, left, &mut told),
+        Call::Unread(left) => {
+            told.push_str("unread:").expect(rt, "memory");
+            tell_left(rt, left, &mut told);
+        }
         Call::Read(call) => tell_places(rt, call, &mut told),
     }
     told
 }
 
 fn tell_left(rt: &impl Abort, left: &SetAside, told: &mut String) {
-    told.push_str("unread:").expect(rt, "memory");
     match left {
         SetAside::These(ids) | SetAside::Strangers(ids) => {
             for id in ids {
@@ -788,19 +863,50 @@ fn tell_places(rt: &impl Abort, call: &Readable, told: &mut String) {
     }
 }
 
+// What the last place of a call leaves that isn't judged, where the ID Placeholder holds p.
+fn left_of(rt: &impl Abort, alloc: Global, call: &Call) -> String {
+    let mut told = String::new(alloc);
+    if let Call::Read(call) = call {
+        if let Some(Place::Passed(_, passed)) = call.places.last() {
+            let left = leaves(alloc, &passed.ask, &passed.answer, Held::Holds("p"));
+            told.push_str("left:").expect(rt, "memory");
+            tell_left(rt, &left.expect(rt, "memory").aside, &mut told);
+        }
+    }
+    told
+}
+
+// The message of a row, where there is one.
+fn some_message(
+    rt: &impl Abort,
+    alloc: Global,
+    spelled: &Option<Spelled>,
+    tag: u32,
+    header: u32,
+) -> Option<Item> {
+    match spelled {
+        Some(spelled) => Some(message_of(rt, alloc, spelled, tag, header)),
+        None => None,
+    }
+}
+
 fn check_row(rt: &impl Abort, alloc: Global, row: &Row) {
     let (what, asked, answered, asides, expected) = row;
-    let request = match asked {
-        Some(spelled) => Some(message_of(rt, alloc, spelled, 0x42_0078, 0x42_0077)),
-        None => None,
-    };
-    let response = match answered {
-        Some(spelled) => Some(message_of(rt, alloc, spelled, 0x42_007B, 0x42_007A)),
-        None => None,
-    };
+    let request = some_message(rt, alloc, asked, 0x42_0078, 0x42_0077);
+    let response = some_message(rt, alloc, answered, 0x42_007B, 0x42_007A);
     let (asking, answering) = (view_of(&request), view_of(&response));
     let call = read_call(alloc, asking.as_ref(), answering.as_ref(), asides);
     let told = told_of(rt, alloc, &call.expect(rt, "memory"));
+    check(rt, told.as_str() == *expected, what);
+}
+
+fn check_left(rt: &impl Abort, alloc: Global, row: &Row) {
+    let (what, asked, answered, asides, expected) = row;
+    let request = some_message(rt, alloc, asked, 0x42_0078, 0x42_0077);
+    let response = some_message(rt, alloc, answered, 0x42_007B, 0x42_007A);
+    let (asking, answering) = (view_of(&request), view_of(&response));
+    let call = read_call(alloc, asking.as_ref(), answering.as_ref(), asides);
+    let told = left_of(rt, alloc, &call.expect(rt, "memory"));
     check(rt, told.as_str() == *expected, what);
 }
 
@@ -871,5 +977,12 @@ fn calls_without_a_request_are_unread(rt: HostRuntime) {
 fn calls_set_aside_are_unread(rt: HostRuntime) {
     for row in &SET_ASIDE {
         check_row(&rt, rt.alloc(), row);
+    }
+}
+
+#[test]
+fn passed_places_leave(rt: HostRuntime) {
+    for row in &PASSED {
+        check_left(&rt, rt.alloc(), row);
     }
 }

@@ -4,8 +4,9 @@ use super::check;
 use super::reading::{declared, transcript_of};
 use super::spelled::*;
 use kmipa_check::CheckFault;
+use kmipa_orders::{Found, Unwatched, Watch};
 use kmipa_record::Turn;
-use kmipa_search::{Found, Unwatched, Watch, search, search_open, search_watched};
+use kmipa_search::{search, search_open, search_watched};
 use std::process::Abort;
 
 // More steps than any search here makes.
