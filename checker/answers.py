@@ -1,156 +1,217 @@
-"""PROFILE, Why an answer is impossible, with Locate, Refusals and Who sees what: one item of a call."""
-from __future__ import annotations
+"""PROFILE, Why an answer is impossible, Locate, Refusals, Who sees what, What is set aside: the items of a run."""
 from enum import Enum
-from typing import Iterator
-from aside import Run
-from files import MUST_HIDE, NOT_FOUND, TAKEN_NAME, WRONG_STATE
-from messages import Answer, Ask, object_in
-from objects import MAY, MUST, NOT, REVOKE_COMPROMISED, TABLE, Object, read_attributes
-from tags import (CHANGING, DATES, ENUMERATION, FAILED, GET, GET_ATTRIBUTES, LOCATE, MAKING, ON_AN_OBJECT,
-                  REGISTER, REVOKE, Tag)
-from ttlv import NOTHING, Item, are_once_of, differ, first_of
+from typing import Any, Counter, Iterable, Iterator
+from files import EVERYONE, MUST_HIDE, NOT_FOUND, TAKEN_NAME, WRONG_STATE, Declaration, Place, Step, object_in
+from objects import BLANK, MUST, NOT, TABLE, Identifier, Object, disagree, read_attributes
+from ttlv import (CHANGING, ENUMERATION, FAILED, GET, GET_ATTRIBUTES, LOCATE, MAKING, NOTHING, ON_AN_OBJECT, PENDING,
+                  SINGLE, STRUCTURE, SUCCESS, TEXT, UNDONE, Item, Tag, are_once_of, differ, refuse)
 
 Why = Enum("Why", "EarlierCallLate StampRunsBack BatchShape OperationDiffers NoSuchObject WrongState "
                   "IdentifierTaken NameTaken BytesDiffer LengthImpossible AttributeDiffers "
                   "AttributeMissing ListedWrongly ListedTooFew ReasonUnfounded EchoDiffers NotVisible")
-# Conditions in the order of their numbers, each with its own.
 Whys = Iterator[tuple[object, Why]]
-FILTERS = {Tag.OBJECT_TYPE, Tag.STATE, Tag.ALGORITHM, Tag.LENGTH}
-# What an object has to have where an answer shows it.
-NEEDED = {*DATES} - {Tag.INITIAL}
+FILTERS = (Tag.NAME, Tag.OBJECT_TYPE, Tag.STATE, Tag.ALGORITHM, Tag.LENGTH)
 
-def act_of(ask: Ask) -> int:
-    """The row of the table by which an operation on an object is judged."""
-    code = ask.payload.inner(Tag.REVOCATION).get(Tag.REVOCATION_CODE)
-    return REVOKE_COMPROMISED if ask.operation == REVOKE and code in (2, 3) else ask.operation
+class Run:
+    """How far a run has come: the inventory, with what is aside; whether judging is over; how items were judged;
+    of the call how a no begins, the date that it tells, its client, its moment, and what the placeholder holds."""
+    def __init__(self, declared: Declaration) -> None:
+        self.declared, self.things, self.is_over, self.ways = declared, {**declared.entries}, False, Counter[str]()
+        self.no, self.date, self.client, self.now = "", "", "", 0
+        self.held: Identifier = None
+    def refuse(self, item: int, tests: Iterable[tuple[object, Enum]]) -> None:
+        """Ends the run where an item is impossible for one of these reasons."""
+        refuse(f"{self.no} item {item} why", tests, f"\nat {self.date}", 1)
+    def find(self, identifier: Identifier) -> Any:
+        """The object of an identifier; BLANK where that is aside or isn't known, None where there is none."""
+        is_named = isinstance(identifier, str)
+        return self.things.get(identifier, self.things.get(BLANK)) if is_named else identifier
+    def word(self, it: Place, found: Object) -> str:
+        """What the rules say of an operation in the state of its object."""
+        cell = it.act, found.at(self.now)[Tag.STATE]
+        return self.declared.lines.get(cell, TABLE[cell])
+    def objects(self, are_seen: bool = False) -> dict[Identifier, Object]:
+        """The objects of the inventory, or those that aren't hidden from the call."""
+        objects = ((name, it) for name, it in self.things.items() if isinstance(it, Object))
+        return {name: it for name, it in objects if not (are_seen and self.hides(it))}
+    def hides(self, it: Any) -> bool:
+        """Whether there is an object, and it is hidden from the call."""
+        is_other = isinstance(it, Object) and it.owner not in (None, self.client)
+        return is_other and self.declared.visibility != EVERYONE
+    def set_aside(self, *identifiers: Identifier) -> None:
+        """Sets identifiers aside, and all where one isn't known."""
+        if BLANK in identifiers:
+            self.things.clear()
+        self.things.update((it, BLANK) for it in identifiers if it is not None)
+    def meant(self, it: Place) -> Identifier:
+        """The identifier that an item is about: asked for, held or, if what is held isn't known, shown."""
+        held = it.said.get(Tag.IDENTIFIER, BLANK) if self.held == BLANK else self.held
+        return held if it.identifier is None else it.identifier
+    def is_about_aside(self, it: Place) -> bool:
+        """Whether an item is possible whatever it answers, since what it is about is aside or unknown."""
+        return self.is_over or it.operation in ON_AN_OBJECT and self.find(self.meant(it)) == BLANK
 
-def word_of(run: Run, ask: Ask, found: Object) -> int:
-    """What the rules say of an operation in the state of its object."""
-    cell = act_of(ask), found.state(run.now)
-    return run.declared.lines.get(cell, TABLE[cell])
-
-def is_about_aside(run: Run, ask: Ask, answer: Answer) -> bool:
-    """Whether an item is possible whatever it answers, since what it is about is aside or unknown."""
-    return run.is_over or ask.operation in ON_AN_OBJECT and run.is_aside(run.meant(ask, answer))
-
-def is_founded(run: Run, ask: Ask, answer: Answer, meant: str | None) -> bool:
+def is_founded(run: Run, it: Place, meant: Identifier) -> bool:
     """Whether the reason of a failed answer is founded."""
-    found, is_on_object = run.inventory.get(meant), ask.operation in ON_AN_OBJECT
-    causes = [cause for reason, cause in run.declared.rows if reason == answer.item.get(Tag.REASON)]
+    found, is_on_object = run.find(meant), it.operation in ON_AN_OBJECT
+    causes = [cause for number, cause in run.declared.rows if number == it.answer.get(Tag.REASON)]
     if not causes or is_on_object and (meant is None or run.hides(found)):
         return True
-    is_judged = is_on_object and not (ask.operation == GET_ATTRIBUTES and ask.payload.first(Tag.REFERENCE))
-    seen = [it for it in run.inventory.values() if run.declared.visibility != MUST_HIDE or not run.hides(it)]
-    is_taken = run.aside or any(read_attributes(ask.given)[0] & it.names for it in seen)
+    is_judged = is_on_object and not (it.operation == GET_ATTRIBUTES and it.asked.first(Tag.REFERENCE))
+    names, known = read_attributes(it.given)[Tag.NAME], run.objects(run.declared.visibility == MUST_HIDE).values()
+    is_taken = BLANK in run.things.values() or any(names & one.has[Tag.NAME] for one in known)
     holds = {
-        NOT_FOUND: not is_judged or found is None or Tag.DESTROY in found.single,
-        WRONG_STATE: not is_judged or found is not None and word_of(run, ask, found) != MUST,
-        TAKEN_NAME: ask.operation not in MAKING or is_taken}
-    return any(holds[it] for it in causes)
+        NOT_FOUND: not is_judged or not isinstance(found, Object) or Tag.DESTROY in found.has,
+        WRONG_STATE: not is_judged or isinstance(found, Object) and run.word(it, found) != MUST,
+        TAKEN_NAME: it.operation not in MAKING or is_taken}
+    return any(holds[cause] for cause in causes)
 
-def born(run: Run, ask: Ask) -> Object:
+def born(run: Run, it: Place) -> Object:
     """The object that a Create or Register adds: the client's who asked for it."""
-    names, single = read_attributes(ask.given)
-    fixed = {Tag.OBJECT_TYPE: ask.payload.get(Tag.OBJECT_TYPE), Tag.INITIAL: run.now}
-    secret = object_in(ask.payload)[2] if ask.operation == REGISTER else []
-    return Object(names, {**single, **fixed}, secret, run.client)
+    fixed = {Tag.OBJECT_TYPE: it.asked.get(Tag.OBJECT_TYPE), Tag.INITIAL: run.now}
+    return Object({**read_attributes(it.given), **fixed}, it.secret, run.client)
 
-def whys_of_making(run: Run, ask: Ask, said: Item) -> Whys:
+def whys_of_making(run: Run, it: Place) -> Whys:
     """Why a Create or Register is impossible."""
-    made = born(run, ask)
-    live = [it for it in run.inventory.values() if Tag.DESTROY not in it.single and not run.hides(it)]
-    yield said.get(Tag.IDENTIFIER) in run.inventory, Why.IdentifierTaken
-    yield run.declared.unique_names and any(made.names & it.names for it in live), Why.NameTaken
+    made, live = born(run, it), [one.has for one in run.objects(True).values() if Tag.DESTROY not in one.has]
+    is_taken = any(made.has[Tag.NAME] & one[Tag.NAME] for one in live)
+    yield it.said.get(Tag.IDENTIFIER) in run.objects(), Why.IdentifierTaken
+    yield run.declared.unique_names and is_taken, Why.NameTaken
     yield not made.admits(made.secret), Why.LengthImpossible
-    yield differ((said.get(Tag.OBJECT_TYPE), made.single[Tag.OBJECT_TYPE])), Why.EchoDiffers
+    yield differ((it.said.get(Tag.OBJECT_TYPE), made.has[Tag.OBJECT_TYPE])), Why.EchoDiffers
 
-def fits_of(run: Run, ask: Ask) -> dict[str | None, int]:
-    """How each object fits the filters of a Locate that are judged."""
-    names, single = read_attributes(ask.given)
-    wanted = {tag: it for tag, it in single.items() if tag in FILTERS}
-    fits = {}
-    for identifier, found in run.inventory.items():
-        has = {**found.single, Tag.STATE: found.state(run.now)}
-        is_out = not names <= found.names or differ(*((has.get(tag), it) for tag, it in wanted.items()))
-        is_in = wanted.keys() <= has.keys() and Tag.DESTROY not in has
-        fits[identifier] = NOT if is_out else MUST if is_in else MAY
-    return fits
-
-def whys_of_list(run: Run, ask: Ask, listed: list[str | None]) -> Whys:
+def whys_of_list(run: Run, it: Place, listed: list[Identifier]) -> Whys:
     """Why the list of a Locate is impossible; nothing must be listed if it asks for more than is judged."""
-    fits, most, once = fits_of(run, ask), ask.payload.get(Tag.MAXIMUM), {*listed}
-    are_too_many = len(once) < len(listed) or most is not None and 0 < most < len(listed)
-    is_wrong = any(fits.get(it, MAY if run.is_aside(it) else NOT) == NOT for it in once)
+    has, most = {name: one.at(run.now) for name, one in run.objects().items()}, it.asked.get(Tag.MAXIMUM)
+    wanted = {tag: one for tag, one in read_attributes(it.given).items() if tag in FILTERS}
+    are_too_many = len({*listed}) < len(listed) or most is not None and 0 < most < len(listed)
+    is_wrong = any(run.find(name) is None or name in has and disagree(has[name], wanted) for name in listed)
     yield are_too_many or is_wrong, Why.ListedWrongly
-    parts = [it.tag for it in ask.payload.children]
-    filters = [it.tag for it in ask.given if it.tag != Tag.NAME]
-    are_judged = are_once_of(filters, FILTERS) and are_once_of(parts, (Tag.ATTRIBUTES, Tag.MAXIMUM))
-    due = [it for it, word in fits.items() if word == MUST and not run.hides(run.inventory[it])]
-    yield are_judged and not once.issuperset(due) and (most is None or len(listed) < most), Why.ListedTooFew
+    parts, tags = [one.tag for one in it.asked.children], [one.tag for one in it.given if one.tag != Tag.NAME]
+    are_judged = are_once_of(tags, FILTERS) and are_once_of(parts, (Tag.ATTRIBUTES, Tag.MAXIMUM))
+    due = {name for name in run.objects(True) if wanted.keys() <= has[name].keys() and Tag.DESTROY not in has[name]
+           and not disagree(has[name], wanted)}
+    yield are_judged and not due <= {*listed} and (most is None or len(listed) < most), Why.ListedTooFew
 
-def whys_of_get(found: Object, said: Item) -> Whys:
+def whys_of_get(_run: Run, it: Place, found: Object) -> Whys:
     """Why what a Get shows is impossible."""
-    (kind, block, shown), own_kind = object_in(said), found.single[Tag.OBJECT_TYPE]
-    pairs = [(block.get(it), found.single.get(it)) for it in (Tag.ALGORITHM, Tag.LENGTH)]
-    yield found.secret and found.secret != shown, Why.BytesDiffer
-    yield not found.secret and not found.admits(shown), Why.LengthImpossible
-    yield differ((said.get(Tag.OBJECT_TYPE), own_kind), (kind, own_kind), *pairs), Why.AttributeDiffers
+    kind, block, secret = object_in(it.said)
+    shown = read_attributes(block.every(Tag.ALGORITHM, Tag.LENGTH) + it.said.every(Tag.OBJECT_TYPE))
+    yield found.secret and found.secret != secret, Why.BytesDiffer
+    yield not found.secret and not found.admits(secret), Why.LengthImpossible
+    yield disagree(found.has, shown) or kind != found.has[Tag.OBJECT_TYPE], Why.AttributeDiffers
 
-def whys_of_attributes(found: Object, ask: Ask, said: Item, now: int) -> Whys:
+def whys_of_attributes(run: Run, it: Place, found: Object) -> Whys:
     """Why what a Get Attributes shows is impossible."""
-    names, shown = read_attributes(said.inner(Tag.ATTRIBUTES).children)
-    has = {**found.single, Tag.STATE: found.state(now)}
-    is_other = any(has.get(tag, None if tag in NEEDED else it) != it for tag, it in shown.items())
-    yield is_other or not names <= found.names, Why.AttributeDiffers
-    asked = [it for it in ask.payload.children if it is not ask.payload.first(Tag.IDENTIFIER)]
-    is_plain = all((it.tag, it.type) == (Tag.REFERENCE, ENUMERATION) for it in asked)
-    wanted = {it.value for it in asked} if asked else {Tag.NAME, *has}
-    is_short = not shown.keys() >= wanted & has.keys() or Tag.NAME in wanted and not found.names <= names
-    yield is_plain and is_short and Tag.DESTROY not in has, Why.AttributeMissing
+    has, shown = found.at(run.now), read_attributes(it.said.inner(Tag.ATTRIBUTES).children)
+    yield disagree(has, shown), Why.AttributeDiffers
+    asked = [one for one in it.asked.children if one is not it.asked.first(Tag.IDENTIFIER)]
+    is_plain = all((one.tag, one.type) == (Tag.REFERENCE, ENUMERATION) for one in asked)
+    wanted = {one.value for one in asked} if asked else {*has}
+    are_there = shown.keys() >= wanted & has.keys() and (Tag.NAME not in wanted or has[Tag.NAME] <= shown[Tag.NAME])
+    yield is_plain and Tag.DESTROY not in has and not are_there, Why.AttributeMissing
 
-def whys(run: Run, ask: Ask, answer: Answer, meant: str | None) -> Whys:
+SHOWING = {GET: whys_of_get, GET_ATTRIBUTES: whys_of_attributes}
+
+def whys(run: Run, it: Place, meant: Identifier) -> Whys:
     """Why an item is impossible; little of it is judged where it is about what is aside."""
-    about: list[str | None] = []
-    said, found = answer.payload, run.inventory.get(meant)
-    yield answer.operation not in (None, ask.operation), Why.OperationDiffers
-    # The operation, where what it answers is judged.
-    judged = 0 if is_about_aside(run, ask, answer) else ask.operation
-    if answer.status == FAILED:
-        yield judged and not is_founded(run, ask, answer, meant), Why.ReasonUnfounded
+    found, judged = run.find(meant), 0 if run.is_about_aside(it) else it.operation
+    about = it.said.values(Tag.IDENTIFIER) if judged == LOCATE else [meant] if judged in ON_AN_OBJECT else []
+    yield it.answers_to not in (None, it.operation), Why.OperationDiffers
+    if it.status == FAILED:
+        yield judged and not is_founded(run, it, meant), Why.ReasonUnfounded
     elif judged in MAKING:
-        yield from whys_of_making(run, ask, said)
+        yield from whys_of_making(run, it)
     elif judged == LOCATE:
-        about = said.values(Tag.IDENTIFIER)
-        yield from whys_of_list(run, ask, about)
+        yield from whys_of_list(run, it, about)
     elif judged in ON_AN_OBJECT:
-        about = [meant]
         yield found is None, Why.NoSuchObject
-        if found is not None:
-            yield word_of(run, ask, found) == NOT, Why.WrongState
-            if judged == GET and said is not NOTHING:
-                yield from whys_of_get(found, said)
-            if judged == GET_ATTRIBUTES and said is not NOTHING:
-                yield from whys_of_attributes(found, ask, said, run.now)
-        yield differ((said.get(Tag.IDENTIFIER), meant)), Why.EchoDiffers
-    yield differ((ask.item.get(Tag.BATCH_ID), answer.item.get(Tag.BATCH_ID))), Why.EchoDiffers
-    hidden = [it for it in about if run.hides(run.inventory.get(it))]
-    yield hidden and run.declared.visibility == MUST_HIDE, Why.NotVisible
+        yield run.word(it, found) == NOT, Why.WrongState
+        if it.said is not NOTHING and judged in SHOWING:
+            yield from SHOWING[judged](run, it, found)
+        yield differ((it.said.get(Tag.IDENTIFIER), meant)), Why.EchoDiffers
+    yield differ((it.ask.get(Tag.BATCH_ID), it.answer.get(Tag.BATCH_ID))), Why.EchoDiffers
+    is_hidden = it.status != FAILED and any(run.hides(run.find(name)) for name in about)
+    yield is_hidden and run.declared.visibility == MUST_HIDE, Why.NotVisible
 
-def take(run: Run, ask: Ask, answer: Answer) -> Why | None:
-    """Takes an item: the lowest reason why it is impossible, or None, and then the run is as it leaves it."""
-    meant, said, is_aside = run.meant(ask, answer), answer.payload, is_about_aside(run, ask, answer)
-    shown, why = said.values(Tag.IDENTIFIER), first_of(whys(run, ask, answer, meant))
-    if why is not None or answer.status == FAILED:
-        return why
-    if is_aside:
-        run.set_aside(*([None] if meant is None and ask.operation in CHANGING else []))
-    elif ask.operation in MAKING:
-        run.aside.discard(shown[0])
-        run.inventory[shown[0]], run.placeholder, run.is_unknown = born(run, ask), shown[0], False
-    elif ask.operation == LOCATE:
-        run.placeholder, run.is_unknown = shown[0] if len(shown) == 1 else None, False
-    elif ask.operation == GET and said is not NOTHING:
-        run.inventory[meant].secret[:] = object_in(said)[2]
-    elif ask.operation in CHANGING:
-        run.inventory[meant] = run.inventory[meant].left_by(act_of(ask), run.now)
-    return None
+def take(run: Run, it: Place) -> None:
+    """Takes an item, where it is possible, and leaves the run as that does."""
+    meant, shown = run.meant(it), it.said.values(Tag.IDENTIFIER)
+    run.refuse(it.number, whys(run, it, meant))
+    found = run.find(meant)
+    if run.is_about_aside(it) or it.status == FAILED:
+        is_lost = it.operation in CHANGING and it.status != FAILED and meant == BLANK
+        run.set_aside(BLANK if is_lost else None)
+    elif it.operation in MAKING:
+        run.things[shown[0]], run.held = born(run, it), shown[0]
+    elif it.operation == LOCATE:
+        run.held = shown[0] if len(shown) == 1 else None
+    elif it.operation == GET and it.said is not NOTHING:
+        found.secret[:] = object_in(it.said)[2]
+    elif it.operation in CHANGING:
+        run.things[meant] = found.left_by(it.act, run.now)
+
+IDENTIFIERS, ON_ATTRIBUTES = (Tag.IDENTIFIER, Tag.PRIVATE, Tag.PUBLIC, Tag.LINKED), (0xD, 0xE, 0xF, 0x30, 0x31)
+LOOKS, CHANGES, MAKES, MAY_CREATE, ENDS = "looks", "changes", "makes", "may create", "ends judging"
+# The sorts of operations by their numbers; every other may create.
+SORTS = {number: sort for sort, numbers in (
+    (LOOKS, "0A 0B 08 0C 09 10 11 17 18 1E 1F 20 21 22 23 24 25 26 27 2B 2C 2D 2E 2F 38 39 3B"),
+    (CHANGES, "12 13 14 15 16 0D 0E 0F 30 31"), (MAKES, "01 03"), (ENDS, "32 33 34 36 37"),
+) for number in bytes.fromhex(numbers)}
+
+def texts_in(item: Item) -> list[str]:
+    """The Texts under identifier tags anywhere in an item."""
+    own = [it.value for it in item.every(*IDENTIFIERS) if it.type == TEXT]
+    return own + [text for it in item.children for text in texts_in(it)]
+
+def sort_of(it: Place) -> str:
+    """What an operation may do; one of attributes looks where it names one alone, which isn't judged."""
+    references, news = it.asked.every(Tag.REFERENCE)[:1], it.asked.every(Tag.NEW_ATTRIBUTE)[:1]
+    named = [{ENUMERATION: one.value, STRUCTURE: 0}.get(one.type, Tag.NAME) for one in references]
+    named += [one.children[0].tag if len(one.children) == 1 else Tag.NAME for one in news]
+    is_other = named and not {Tag.NAME, Tag.IDENTIFIER, *SINGLE} & {*named}
+    return LOOKS if it.operation in ON_ATTRIBUTES and is_other else SORTS.get(it.operation, MAY_CREATE)
+
+def pass_place(run: Run, it: Place, is_unordered: bool) -> None:
+    """What a passed place leaves."""
+    sort, payload = sort_of(it), it.answer.first(Tag.SHOWN) or Item(Tag.SHOWN, STRUCTURE)
+    asked, shown, held = texts_in(it.asked), payload.get(Tag.IDENTIFIER, BLANK), [run.held] if it.names_none else []
+    if run.is_over or it.status == FAILED:
+        return
+    if sort == ENDS or it.status == PENDING and sort != LOOKS:
+        run.is_over = True
+    elif it.operation == LOCATE:
+        listed = [one.value if one.type == TEXT else BLANK for one in payload.every(Tag.IDENTIFIER)]
+        run.set_aside(*(one for one in listed if one != BLANK and one not in run.things))
+        is_empty = not listed and it.status == SUCCESS and payload.type == STRUCTURE
+        run.held = listed[0] if len(listed) == 1 and it.status != PENDING else None if is_empty else BLANK
+    elif it.status == PENDING:
+        run.held = BLANK
+    elif sort == CHANGES:
+        means = [] if is_unordered else held
+        texts = [one for one in (it.identifier, *means, shown) if isinstance(one, str)]
+        run.set_aside(*asked, *(texts[:1] or means or [BLANK]))
+    elif sort == MAKES:
+        run.held = shown
+        run.set_aside(shown)
+    elif sort == MAY_CREATE:
+        named = {(one.type, one.value) for one in it.asked.every(*IDENTIFIERS) if one.type != TEXT}
+        is_lost = it.status == UNDONE and not payload.children or named - {(ENUMERATION, 1)}
+        run.set_aside(*asked, *texts_in(payload), *held, *([BLANK] if is_lost else []))
+        run.held = BLANK
+
+def pass_call(run: Run, step: Step) -> None:
+    """What a call leaves that is unreadable."""
+    asks = [it for it in step.places if it.ask is not NOTHING]
+    statuses = {it.status for it in step.places if it.answer is not NOTHING}
+    if run.is_over or statuses == {FAILED}:
+        return
+    if not asks:
+        run.set_aside(BLANK)
+    elif ENDS in map(sort_of, asks) or PENDING in statuses or not statuses and step.allows_pending:
+        run.is_over = True
+    else:
+        for it in asks:
+            made = it.answer.inner(Tag.SHOWN).get(Tag.IDENTIFIER, BLANK)
+            named = [it.asked.get(Tag.IDENTIFIER, BLANK), *texts_in(it.asked)]
+            run.set_aside(*{CHANGES: named, MAKES: [made], MAY_CREATE: [BLANK]}.get(sort_of(it), []))
