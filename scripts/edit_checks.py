@@ -57,6 +57,10 @@ class Verdict:
     folder: str = ""
 
 
+class OutOfTime(Exception):
+    """A library could not be built until the checks were to end."""
+
+
 @dataclass
 class Crate:
     """A crate: its folder, what it uses of the repository and of the kit, where libraries are built, and what its checks have taken of a
@@ -122,12 +126,14 @@ class Crate:
             return out.read().decode(errors="replace")
 
     def build_to(self, folder: Path, jobs: int) -> None:
-        """Proves the library from nothing and builds it into a folder, for the crates above it."""
+        """Proves the library from nothing and builds it into a folder, for the crates above it. OutOfTime where the time ends first."""
         with tempfile.TemporaryDirectory(prefix="wrong-bodies-") as made:
             self.copy_to(Path(made))
             to = folder / f"{self.name}.rlib"
             words = ["build", *self.rattle_words(), "--statements", "--jobs", str(jobs), "-o", str(to)]
             said = self.run_rattle(Path(made), words)
+        if not to.is_dir() and time.monotonic() >= self.ends:
+            raise OutOfTime(self.name)
         if not to.is_dir():
             raise SystemExit(f"wrong-bodies: {self.name}: it is not proved, and has to be first: {first_error(said)}")
         self.libraries[self.name] = to

@@ -6,7 +6,7 @@ STRUCTURE, INTEGER, ENUMERATION, BOOLEAN, TEXT, BYTES, DATE_TIME, DATE_TIME_EXTE
 
 CREATE, REGISTER, LOCATE, GET, GET_ATTRIBUTES, ACTIVATE, REVOKE, DESTROY = 1, 3, 8, 0x0A, 0x0B, 0x12, 0x13, 0x14
 QUERY = 0x18
-SUCCESS, FAILED, UNDONE = 0, 1, 3
+SUCCESS, FAILED, PENDING, UNDONE = 0, 1, 2, 3
 CONTINUE, STOP, UNDO = 1, 2, 3
 SYMMETRIC_KEY, SECRET_DATA = 2, 7
 PRE_ACTIVE, ACTIVE, DEACTIVATED = 1, 2, 3
@@ -42,7 +42,11 @@ def date(tag: int, second: int) -> bytes:
     return item(tag, DATE_TIME, second.to_bytes(8, "big", signed=True))
 
 
-VERSION = structure(0x420069, integer(0x42006A, 2), integer(0x42006B, 1))
+def protocol_version(major: int, minor: int) -> bytes:
+    return structure(0x420069, integer(0x42006A, major), integer(0x42006B, minor))
+
+
+VERSION = protocol_version(2, 1)
 
 
 def identifier(name: str) -> bytes:
@@ -106,8 +110,9 @@ def refused(reason: int) -> bytes:
     return structure(0x42000F, enumeration(0x42007F, FAILED), enumeration(0x42007E, reason))
 
 
-def request(*asks: bytes, option: int | None = None, ordered: bool | None = None) -> bytes:
-    header = [VERSION]
+def request(*asks: bytes, option: int | None = None, ordered: bool | None = None, version: bytes = VERSION, pending: bytes = b"") -> bytes:
+    """A request; `pending` is an Asynchronous Indicator, by which an answer may be Pending."""
+    header = [version, pending]
     if option is not None:
         header.append(enumeration(0x42000E, option))
     if ordered is not None:
@@ -115,8 +120,8 @@ def request(*asks: bytes, option: int | None = None, ordered: bool | None = None
     return structure(0x420078, structure(0x420077, *header, integer(0x42000D, len(asks))), *asks)
 
 
-def response(stamp: int, *answers: bytes) -> bytes:
-    return structure(0x42007B, structure(0x42007A, VERSION, date(0x420092, stamp), integer(0x42000D, len(answers))), *answers)
+def response(stamp: int, *answers: bytes, version: bytes = VERSION) -> bytes:
+    return structure(0x42007B, structure(0x42007A, version, date(0x420092, stamp), integer(0x42000D, len(answers))), *answers)
 
 
 def begin_mark(call: int, client: str, message: bytes) -> bytes:
@@ -146,6 +151,11 @@ def declaration_header(unique_names: bool = False, tolerance: int | None = None,
 def own_line(tag: int) -> bytes:
     """An attribute that the server itself may give an object at birth."""
     return structure(0x54003B, enumeration(0x42013B, tag))
+
+
+def allow_line(act: int, state: int, word: int) -> bytes:
+    """The server's own word for a cell of the table of states."""
+    return structure(0x540038, enumeration(0x540039, act), enumeration(0x42008D, state), enumeration(0x54003A, word))
 
 
 def aside_entry(name: str) -> bytes:
