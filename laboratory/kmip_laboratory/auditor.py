@@ -7,8 +7,9 @@ import shutil
 import subprocess
 import threading
 from pathlib import Path
-from typing import Callable, Iterator, Optional
+from typing import Callable, Iterator, Optional, Union
 
+from .judgement import Judgement, read_fault, read_judgement
 from .trouble import Trouble
 from .verdicts import Account, Outcome, Verdict, read_account, read_explained, read_verdict
 
@@ -63,6 +64,19 @@ class Auditor:
         """What a search says; the witness that it finds goes into the new file."""
         more = [] if budget is None else ["--budget", str(budget)]
         return self._verdict("search", transcript, declaration, out, "--quiet", *more)
+
+    def judge(self, transcript: str, declaration: Optional[str], witness: str, used: Optional[str],
+              budget: int) -> Union[Judgement, Verdict]:
+        """What is found in a recording; or the fault of a file. The witness goes into a new file, and so does the
+        declaration that is used, where that is asked for."""
+        files = [transcript, *([declaration] if declaration else [])]
+        more = ["--declaration", used] if used else []
+        try:
+            done = self._run("judge", *files, "--witness", witness, *more, "--budget", str(budget), "--quiet")
+        except subprocess.TimeoutExpired:
+            return self._late()
+        found = read_judgement(done.stdout, done.returncode)
+        return found if found else self._read("judge", done, read_fault)
 
     def chain(self, folder: str, budget: int) -> tuple[str, int]:
         """What a chain prints of a folder of segments, and its status."""

@@ -21,10 +21,12 @@ class Outcome(Enum):
     DEVICE = "device"
     MEMORY = "memory"
     LATE = "late"
+    BUT_FOR = "yes but for"
 
 
 PATTERNS: dict[Outcome, Pattern[str]] = {
-    Outcome.YES: re.compile(r"yes(?:: (?P<steps>\d+) steps)?"),
+    Outcome.YES: re.compile(r"yes(?:: (?P<steps>\d+) steps)?(?:\njudged: .+)?"),
+    Outcome.BUT_FOR: re.compile(r"yes but for \d+ items\njudged: .+"),
     Outcome.NO: re.compile(r"no: turn (?P<turn>\d+) call (?P<call>\d+) item (?P<item>\d+) why (?P<number>\d+) "
                            r"(?P<name>\w+)\nat (?P<date>\S+)"),
     Outcome.OUTSIDE: re.compile(r"outside: call (?P<call>\d+) (?P<side>request|response) item (?P<item>\d+) kind "
@@ -40,6 +42,8 @@ PATTERNS: dict[Outcome, Pattern[str]] = {
 NUMBERS = ("turn", "call", "item", "number", "steps")
 # The others explain it.
 LINES_OF_A_NO = 2
+# The second line of a yes by a declaration that sets aside what isn't judged.
+TALLY = "judged: "
 # Of a giving up: that it has decided, and the first call that may be next at the deepest place, and can't be.
 DECIDED = "decided: "
 NEXT = re.compile(r"next: call (?P<call>\d+) item (?P<item>\d+) why (?P<number>\d+) (?P<name>\w+)")
@@ -134,7 +138,7 @@ def _verdict(lines: list[str], status: int) -> Optional[Verdict]:
 def read_explained(printed: str, status: int) -> Optional[Verdict]:
     """The verdict that the first of these lines are, with the others, which explain it."""
     lines, seal = _apart(printed)
-    told = LINES_OF_A_NO if printed.startswith("no: ") else 1
+    told = LINES_OF_A_NO if printed.startswith("no: ") or lines[1:2] and lines[1].startswith(TALLY) else 1
     verdict = _verdict(lines[:told], status)
     verdict = verdict and verdict._replace(seal=seal)
     if verdict is None or verdict.outcome is not Outcome.GAVE_UP or len(lines) == told:

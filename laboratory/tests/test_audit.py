@@ -99,14 +99,37 @@ class Audit(InFolder):
         made = self.folder / "made/declaration.ttlv"
         self.audited(said, "--declaration", made, "--rules", rules, "--out", "other", status=64)
 
-    def test_what_is_unknown_of_the_server_is_asked_for(self) -> None:
-        """Without a word of what the server held nothing is judged, and nothing is made."""
+    def test_where_nothing_is_known_of_the_server_nothing_is_assumed(self) -> None:
+        """A key that is asked for may be there or not: nothing about it is judged, and the status says so."""
         said = self.write(sessions.request(sessions.GET, sessions.identifier("k")),
                           sessions.response(sessions.GET, 1_700_000_000, None, sessions.NOT_FOUND))
-        done = run("audit", said, cwd=self.folder)
-        self.assertEqual((done.returncode, done.stdout), (3, ""))
-        self.assertIn("--empty", done.stderr)
-        self.assertEqual(os.listdir(self.folder), [said.name])
+        lines = self.audited(said, "--out", "made", status=4)
+        self.assertEqual(lines[:2], ["nothing judged", "assumed: nothing is declared"])
+        self.assertIn("judged: 0 of 1 items; set aside: 0 by request, 0 by answer, 0 by witness, 1 by object", lines)
+        self.assertEqual(lines[-1], "made/witness.ttlv is the order that this is told of")
+        self.assertEqual(sorted(os.listdir(self.folder / "made")),
+                         ["declaration.ttlv", "junit.xml", SAID, "witness.ttlv"])
+        failures = list(ElementTree.parse(self.folder / "made/junit.xml").getroot().iter("failure"))
+        self.assertEqual([failure.get("type") for failure in failures], ["nothing judged"])
+
+    def test_findings_where_nothing_is_known_of_the_server(self) -> None:
+        """A key that a recorded call brought is judged, and each answer that is impossible is found."""
+        lines = self.audited(self.brought(bytes(15) + b"\x01", bytes(15) + b"\x02"), "--out", "made", status=1)
+        self.assertEqual(lines[0], "convicted: 2 findings")
+        self.assertIn("finding 1: turn 2 call 2 item 1 why 9 BytesDiffer", lines)
+        self.assertIn("finding 2: turn 3 call 3 item 1 why 9 BytesDiffer", lines)
+        self.assertIn("judged: 1 of 3 items; set aside: 0 by request, 0 by answer, 2 by witness, 0 by object", lines)
+        failure = next(ElementTree.parse(self.folder / "made/junit.xml").getroot().iter("failure"))
+        self.assertEqual((failure.get("type"), failure.get("message")), ("convicted", "convicted: 2 findings"))
+        self.assertEqual(self.audited(self.brought(bytes(16)), "--out", "right")[0], "explained")
+
+    def test_what_is_not_judged_is_set_aside(self) -> None:
+        """A search says that a call is outside, and all others are judged then, by the same declaration."""
+        certificate = sessions.request(sessions.REGISTER, number(0x420057, 5, 1))
+        said = self.brought(bytes(16), first=(certificate, sessions.identifier("c")))
+        lines = self.audited(said, "--empty", "--out", "made")
+        self.assertEqual(lines[:2], ["declaration: 0 rows, 0 entries", "explained"])
+        self.assertIn("judged: 2 of 3 items; set aside: 1 by request, 0 by answer, 0 by witness, 0 by object", lines)
 
     def test_nothing_is_written_over(self) -> None:
         """A folder that is there stays as it is."""
@@ -134,11 +157,31 @@ class Audit(InFolder):
 
     def write(self, request: bytes, response: Optional[bytes]) -> Path:
         """A transcript of one call."""
+        return self.transcript((request, response))
+
+    def brought(self, *shown: bytes, first: Optional[tuple[bytes, bytes]] = None) -> Path:
+        """A transcript in which a key of zeros is registered, and got as often as something is shown of it; ahead of
+        that, where it is given, a request to register and what its answer shows."""
+        stamp, key = 1_700_000_000, sessions.key(bytes(16))
+        register = number(0x420057, 5, 2) + sessions.attributes(number(0x42002C, 2, 12)) + key
+        calls = [(first[0], sessions.response(sessions.REGISTER, stamp, first[1]))] if first else []
+        calls += [(sessions.request(sessions.REGISTER, register),
+                   sessions.response(sessions.REGISTER, stamp, sessions.identifier("k")))]
+        for data in shown:
+            told = number(0x420057, 5, 2) + sessions.identifier("k") + sessions.key(data)
+            asked = sessions.request(sessions.GET, sessions.identifier("k"))
+            calls.append((asked, sessions.response(sessions.GET, stamp, told)))
+        return self.transcript(*calls)
+
+    def transcript(self, *calls: tuple[bytes, Optional[bytes]]) -> Path:
+        """A transcript of calls of one client, one behind the other."""
         path = self.folder / "said.ttlv"
+        path.unlink(missing_ok=True)
         with TranscriptWriter(str(path)) as writer:
-            call = writer.begin("a", request)
-            if response is not None:
-                writer.end(call, response)
+            for request, response in calls:
+                call = writer.begin("a", request)
+                if response is not None:
+                    writer.end(call, response)
         return path
 
 

@@ -37,10 +37,11 @@ class Declared(Laboratory):
     """A server that holds what a test says; each client sees its own objects."""
 
     owners: list[str] = []
+    aside: list[str] = []
 
     def declared(self, objects: dict[str, dict[str, bytes]], *words: object) -> tuple[list[str], str]:
         """The identifiers that are declared, where the server tells each client, by its name, of these objects; and
-        what is said."""
+        what is said. Those that are set aside stay in `aside`."""
         def answering_as(peer: stub.ssl.SSLSocket, request: bytes) -> None:
             name = dict(pair for part in peer.getpeercert()["subject"] for pair in part)["commonName"]
             seen = objects.get(name, {})
@@ -62,7 +63,10 @@ class Declared(Laboratory):
         entries = [record.item for record in records(str(out), read_file(str(out))) if record.item.tag == 0x540034]
         owners = [entry.first(0x54003C, ttlv.Kind.TEXT) for entry in entries]
         owned = sum(owner is not None for owner in owners)
-        self.assertEqual(done.stdout, f"0 rows, {len(entries)} entries{f', {owned} owners' if owned else ''}\n")
+        aside = [record.item for record in records(str(out), read_file(str(out))) if record.item.tag == 0x54003D]
+        self.aside = [entry.first(0x420094, ttlv.Kind.TEXT).value for entry in aside]
+        counts = f"{f', {len(aside)} set aside' if aside else ''}{f', {owned} owners' if owned else ''}"
+        self.assertEqual(done.stdout, f"0 rows, {len(entries)} entries{counts}\n")
         self.owners = [owner.value if owner else "" for owner in owners]
         return [entry.first(0x420094, ttlv.Kind.TEXT).value for entry in entries], done.stderr
 
@@ -85,6 +89,16 @@ class Declared(Laboratory):
                       "so, but what makes it Pre-Active\n", said)
         self.assertIn("9 objects are left out: where a recorded call succeeds on one of them, the auditor will say "
                       "that there is no such object\n", said)
+
+    def test_what_no_entry_can_say_is_set_aside_where_that_is_asked(self) -> None:
+        objects = {"recorder": {"active": told(ACTIVE, date(INITIAL)), "new": told(PRE_ACTIVE, date(INITIAL)),
+                                "certificate": told(PRE_ACTIVE, date(INITIAL), object_type=CERTIFICATE)}}
+        pair = ["--server-cert", "recorder.pem", "--server-key", "recorder.key"]
+        found, said = self.declared(objects, *pair, "--set-aside")
+        self.assertEqual((found, self.aside), (["new"], ["active", "certificate"]))
+        self.assertIn("2 objects are left out: they are set aside, and nothing about them is judged\n", said)
+        self.assertEqual(self.declared(objects, *pair)[0], ["new"])
+        self.assertEqual(self.aside, [])
 
     def test_a_state_with_its_dates_is_declared_by_the_servers_clock(self) -> None:
         active = [date(INITIAL), date(ACTIVATION, STAMP)]
@@ -153,10 +167,25 @@ class Rules(Laboratory):
         tolerant = header.replace("54003602000000040000000000000000", "54003602000000040000000200000000")
         self.assertEqual(self.declared("--tolerance", "2"), tolerant)
 
+    def test_what_the_server_gives_and_what_becomes_of_what_is_not_judged(self) -> None:
+        header = ("5400300100000050" "54000202000000040000000200000000" "54003106000000080000000000000000"
+                  "54003505000000040000000{}00000000" "54003602000000040000000000000000" "54003705000000040000000100000000")
+        own = "54003b0100000010" "42013b050000000400{}00000000"
+        self.assertEqual(self.declared("--own", "ActivationDate", "--own", "Name"),
+                         header.format(1) + own.format("420001") + own.format("420053"))
+        self.assertEqual(self.declared("--set-aside"), header.format(2))
+        out = Path(self.folder) / "unknown.ttlv"
+        done = run("declare", "--unknown", "--out", str(out))
+        self.assertEqual((done.returncode, done.stdout),
+                         (0, "0 rows, 0 entries, nothing is known of what isn't declared\n"))
+        self.assertEqual(out.read_bytes().hex(), header.format(3))
+
     def test_a_file_says_what_words_say(self) -> None:
         file = Path(self.folder) / "my.rules"
-        file.write_text("# a server\nunique-names\n\nreason 0x37=NotFound # why\nallow Destroy,Active=not\ntolerance 3\n", "utf-8")
-        words = ["--unique-names", "--reason", "0x37=NotFound", "--allow", "Destroy,Active=not", "--tolerance", "3"]
+        file.write_text("# a server\nunique-names\n\nreason 0x37=NotFound # why\nallow Destroy,Active=not\n"
+                        "own Name\ntolerance 3\n", "utf-8")
+        words = ["--unique-names", "--reason", "0x37=NotFound", "--allow", "Destroy,Active=not", "--tolerance", "3",
+                 "--own", "Name"]
         self.assertEqual(self.declared("--rules", str(file)), self.declared(*words))
         self.assertEqual(self.declared("--rules", str(file), "--allow", "Destroy,Active=not"), self.declared(*words))
         self.assertIn("Destroy in state Active has two words: leave one of them away",
@@ -170,7 +199,7 @@ class Rules(Laboratory):
             self.assertIn("is no number of seconds from 0 to 86400", self.declared("--tolerance", words))
         file = Path(self.folder) / "my.rules"
         for text, told_so in (("unique names", "'unique names' is no rule"), ("reason 1=Nothing", "is no NUMBER=CAUSE"),
-                              ("tolerance", "is no number of seconds"),
+                              ("tolerance", "is no number of seconds"), ("own State", "is nothing that a server gives"),
                               ("allow Get,Destroyed=must", "is never open to Get")):
             file.write_text(f"unique-names\n{text}\n", "utf-8")
             self.assertRegex(self.declared("--rules", str(file)), rf"^kmip_record: {file}, line 2: .*{told_so}")

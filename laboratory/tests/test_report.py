@@ -309,6 +309,8 @@ class Report(unittest.TestCase):
     def test_each_printed_line_is_read(self) -> None:
         for line, outcome, number in (("yes", Outcome.YES, None), ("yes: 86 steps", Outcome.YES, None),
                                       ("gave up: 2 steps", Outcome.GAVE_UP, None), ("device", Outcome.DEVICE, None),
+                                      ("yes\njudged: 1 of 2 items; ..", Outcome.YES, None),
+                                      ("yes but for 1 items\njudged: 1 of 2 items; ..", Outcome.BUT_FOR, None),
                                       ("witness: at 2 kind 3 LeftOut", Outcome.WITNESS, 3),
                                       ("malformed: transcript offset 9 kind 1 Ttlv Truncated", Outcome.MALFORMED, 1)):
             verdict = read_verdict(line + "\n", 0)
@@ -316,6 +318,8 @@ class Report(unittest.TestCase):
         for path in EXAMPLES.glob("*/line"):
             self.assertIsNotNone(read_verdict(path.read_text(), 0), path)
         self.assertIsNone(read_verdict("no: turn 1\n", 1))
+        tallied = read_explained("yes\njudged: 1 of 2 items; ..\n", 0)
+        self.assertEqual((tallied.outcome, len(tallied.lines), tallied.explanation), (Outcome.YES, 2, ()))
 
     def test_the_line_of_a_sealed_transcript_changes_no_verdict(self) -> None:
         for printed in ("yes\n", "yes: 86 steps\n", "gave up: 2 steps\n", "no: turn 1 call 2 item 1 why 6 WrongState\nat none\n"):

@@ -24,13 +24,19 @@ MOST_LEFT_OUT = 40
 
 
 class Decision(NamedTuple):
-    """What was decided. `line` is the auditor's on the whole. Of a recording that no order explains, `part` has the
-    calls that none explains already, and `why` is what a check says of one order of them."""
+    """What was decided. `line` is the auditor's on the whole, of this outcome. Of a recording that no order explains,
+    `part` has the calls that none explains already, and `why` is what a check says of one order of them."""
 
     line: str
+    outcome: Outcome
     status: int
     part: list[int]
     why: Optional[Verdict] = None
+
+    @property
+    def is_unjudged(self) -> bool:
+        """The search can't judge the recording, or a declaration that sets aside more than it knows of."""
+        return self.outcome is Outcome.OUTSIDE or self.line.startswith("malformed: declaration ")
 
     @property
     def explained(self) -> bool:
@@ -50,7 +56,7 @@ def decide(folder: Path, auditor: Auditor, budget: int) -> Decision:
     short = min(budget, STEPS_OF_A_PART)
     found = auditor.search(*_files(folder), short)
     if found.outcome is not Outcome.GAVE_UP:
-        return Decision(found.text, found.status, [])
+        return Decision(found.text, found.outcome, found.status, [])
     transcript = read_transcript(str(folder / TRANSCRIPT))
     declaration = read_declaration(str(folder / DECLARATION))
     with Trials(transcript, declaration, False, short, auditor) as trials:
@@ -60,12 +66,12 @@ def decide(folder: Path, auditor: Auditor, budget: int) -> Decision:
         if left is None and _is_decided(found, budget, transcript.calls):
             left = transcript.calls
         if left is None:
-            return Decision(found.text, found.status, [])
+            return Decision(found.text, found.outcome, found.status, [])
         _write(folder / PART, trials, left)
         for path, data in origin_files(str(folder / PART / TRANSCRIPT), str(folder / TRANSCRIPT), transcript.chain):
             write_file(path, data)
     numbers = [call.number for call in left]
-    return Decision(found.text, 1, numbers, auditor.explained("check", *_files(folder / PART)))
+    return Decision(found.text, found.outcome, 1, numbers, auditor.explained("check", *_files(folder / PART)))
 
 
 def _is_decided(found: Verdict, budget: int, calls: list[Call]) -> bool:

@@ -17,30 +17,27 @@ from ..untranslated import Untranslated
 
 
 class Source(NamedTuple):
-    """What is to be audited: the transcript, and the declaration; or the rules of a server that held nothing."""
+    """What is to be audited: the transcript, and the declaration; or the rules of a server that held nothing. Where
+    neither is there nothing is known of the server."""
 
     transcript: str
     declaration: Optional[str]
-    rules: rules.Rules
+    rules: Optional[rules.Rules]
 
 
 def source(recording: str, declared: Optional[str], is_empty: bool, said: rules.Rules) -> Source:
-    """What a transcript is, or the folder of a recording. Where nothing says what the server held, nothing is judged:
-    a key that is shown then may always have been there."""
+    """What a transcript is, or the folder of a recording."""
     folder = Path(recording)
     transcript = str(folder / TRANSCRIPT) if folder.is_dir() else recording
     beside = folder / DECLARATION
     if declared is None and not is_empty and folder.is_dir() and beside.is_file():
         declared = str(beside)
-    if declared is None and not is_empty:
-        raise Trouble(f"nothing says what the server held ahead of {recording}: give --declaration FILE (`kmip_record "
-                      "declare` makes one), or --empty where it held nothing")
-    return Source(transcript, declared, said)
+    return Source(transcript, declared, said if is_empty else None)
 
 
 def gather(found: Source, folder: Path) -> list[str]:
-    """Makes the folder with its transcript and its declaration, and answers the lines that tell of them. The files that
-    they come from stay as they are."""
+    """Makes the folder with its transcript and its declaration, if one is known, and answers the lines that tell of
+    them. The files that they come from stay as they are."""
     told: list[str] = []
     data = read_file(found.transcript)
     declared = None if found.declaration is None else read_file(found.declaration)
@@ -54,8 +51,9 @@ def gather(found: Source, folder: Path) -> list[str]:
         write_file(str(folder / TRANSCRIPT), data)
     if declared is not None:
         write_file(str(folder / DECLARATION), declared)
-    else:
-        told.append(f"declaration: {declaration.run(found.rules, [], str(folder / DECLARATION), False)}")
+    elif found.rules is not None:
+        nothing = declaration.Held([])
+        told.append(f"declaration: {declaration.run(found.rules, nothing, str(folder / DECLARATION), False)}")
     return told
 
 

@@ -10,8 +10,9 @@ from ..auditor import Auditor
 from ..blinding.words import blind
 from ..recordings import DECLARATION, TRANSCRIPT, WITNESS
 from ..reporting.words import Outputs
-from .decide import Decision, decide
+from .decide import decide
 from .ending import REPORT, explained, report, shown_of
+from .finding import find, told_of, write_junit
 from .gather import Source, gather
 
 JUNIT = "junit.xml"
@@ -34,13 +35,28 @@ def run(found: Source, asked: Asked, auditor: Auditor) -> int:
     folder = asked.folder
     for line in gather(found, folder):
         print(line, flush=True)
+    if not (folder / DECLARATION).exists():
+        return _run_judge(asked, auditor)
     decision = decide(folder, auditor, asked.budget)
+    if decision.is_unjudged:
+        return _run_judge(asked, auditor)
     print("\n".join(explained(folder, decision)), flush=True)
     outputs = Outputs(str(folder / REPORT), str(folder / JUNIT), asked.has_text)
     report(folder, decision, asked.budget, auditor.program, outputs)
     if asked.is_blinded:
-        print(_blinded(folder, decision))
+        print(_blinded(folder, shown_of(folder, decision)))
     return decision.status
+
+
+def _run_judge(asked: Asked, auditor: Auditor) -> int:
+    """What is found where a search says nothing. Of that no page is made yet."""
+    folder = asked.folder
+    found = find(folder, auditor, asked.budget)
+    print("\n".join(told_of(folder, found)), flush=True)
+    write_junit(folder, found, folder / JUNIT)
+    if asked.is_blinded:
+        print(_blinded(folder, folder))
+    return found.status
 
 
 def run_segments(folder: str, budget: int, auditor: Auditor) -> int:
@@ -50,9 +66,9 @@ def run_segments(folder: str, budget: int, auditor: Auditor) -> int:
     return status
 
 
-def _blinded(folder: Path, decision: Decision) -> str:
+def _blinded(folder: Path, shown: Path) -> str:
     """Makes the copy of what is to be looked at, and answers the line that tells of it."""
-    shown, copy = shown_of(folder, decision), folder / BLINDED
+    copy = folder / BLINDED
     names = [name for name in (TRANSCRIPT, DECLARATION, WITNESS) if (shown / name).exists()]
     copy.mkdir(mode=0o700)
     told = blind([str(shown / name) for name in names], [str(copy / name) for name in names])

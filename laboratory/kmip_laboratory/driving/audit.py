@@ -57,12 +57,12 @@ def _declare(job: Job, wanted: Wanted) -> None:
     if not wanted.is_empty:
         try:
             held = asyncio.run(inventory.held(job.server, job.context, Version(*job.version), False))
-            entries = inventory.entries({"the driver": held}, False, {})
+            entries, _ = inventory.entries({"the driver": held}, False, {})
         except Trouble as trouble:
             raise Trouble(f"the server could not be asked what it holds ({trouble}); on one that holds nothing, give "
                           "--empty") from None
     said = rules.Rules(wanted.unique_names, wanted.rows, [])
-    told = declaration.run(said, entries, str(wanted.folder / DECLARATION), False)
+    told = declaration.run(said, declaration.Held(entries), str(wanted.folder / DECLARATION), False)
     print(f"declaration: {told}", flush=True)
 
 

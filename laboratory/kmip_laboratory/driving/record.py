@@ -40,4 +40,4 @@ def recording(folder: Path, version: Version, is_sealed: bool) -> Iterator[Trans
 
 def declare(folder: Path, unique_names: bool, rows: list[rules.Row]) -> None:
     """A declaration that the server was empty."""
-    declaration.run(rules.Rules(unique_names, rows, []), [], str(folder / DECLARATION), False)
+    declaration.run(rules.Rules(unique_names, rows, []), declaration.Held([]), str(folder / DECLARATION), False)

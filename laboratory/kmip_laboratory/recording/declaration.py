@@ -2,6 +2,7 @@
 
 from __future__ import annotations
 
+from enum import IntEnum
 from typing import NamedTuple, Optional
 
 from .. import ttlv
@@ -20,12 +21,24 @@ VISIBILITY = 0x540037
 ALLOW_LINE = 0x540038
 ACT = 0x540039
 ALLOW = 0x54003A
+OWN_LINE = 0x54003B
 OWNER = 0x54003C
+ASIDE_ENTRY = 0x54003D
 RESULT_REASON = 0x42007E
 STATE = 0x42008D
+UNIQUE_IDENTIFIER = 0x420094
+ATTRIBUTE_REFERENCE = 0x42013B
 
-# What isn't judged ends the audit, and each client sees every object.
-REFUSED, EVERYONE = 1, 1
+# Each client sees every object.
+EVERYONE = 1
+
+
+class Unjudged(IntEnum):
+    """What becomes of what isn't judged: it ends the audit; it is set aside; and so is whatever isn't declared."""
+
+    REFUSED = 1
+    SET_ASIDE = 2
+    UNKNOWN = 3
 
 
 class Entry(NamedTuple):
@@ -35,15 +48,16 @@ class Entry(NamedTuple):
     owner: Optional[str] = None
 
 
-def run(rules: Rules, entries: list[Entry], out: str, force: bool) -> str:
-    """Writes the declaration, and answers the line that tells of it. It has version 1 where that says all of it."""
-    owned = sum(entry.owner is not None for entry in entries)
-    unique = ttlv.boolean(UNIQUE_NAMES, rules.unique_names)
-    if rules.allow_lines or rules.tolerance or owned:
-        header = ttlv.structure(HEADER, ttlv.integer(VERSION, 2), unique, ttlv.enumeration(UNJUDGED, REFUSED),
-                                ttlv.integer(TOLERANCE, rules.tolerance), ttlv.enumeration(VISIBILITY, EVERYONE))
-    else:
-        header = ttlv.structure(HEADER, ttlv.integer(VERSION, 1), unique)
+class Held(NamedTuple):
+    """What the server held: objects, identifiers that are set aside, and what becomes of what isn't judged."""
+
+    entries: list[Entry]
+    aside: list[str] = []
+    unjudged: Unjudged = Unjudged.REFUSED
+
+
+def run(rules: Rules, held: Held, out: str, force: bool) -> str:
+    """Writes the declaration, and answers the line that tells of it."""
     records = [
         ttlv.structure(ROW, ttlv.enumeration(RESULT_REASON, row.reason), ttlv.enumeration(CAUSE, row.cause))
         for row in rules.rows
@@ -53,13 +67,34 @@ def run(rules: Rules, entries: list[Entry], out: str, force: bool) -> str:
                        ttlv.enumeration(ALLOW, line.allow))
         for line in rules.allow_lines
     ]
-    records += map(_spelled, entries)
-    write_file(out, header + b"".join(records), force)
-    told = [f"{len(rules.rows)} rows", f"{len(entries)} entries"]
+    records += [ttlv.structure(OWN_LINE, ttlv.enumeration(ATTRIBUTE_REFERENCE, own)) for own in rules.own]
+    records += map(_spelled, held.entries)
+    records += [ttlv.structure(ASIDE_ENTRY, ttlv.text(UNIQUE_IDENTIFIER, identifier)) for identifier in held.aside]
+    write_file(out, _header(rules, held) + b"".join(records), force)
+    return ", ".join(_told(rules, held))
+
+
+def _header(rules: Rules, held: Held) -> bytes:
+    """The header of version 1 where that says all of it."""
+    unique = ttlv.boolean(UNIQUE_NAMES, rules.unique_names)
+    owned = any(entry.owner is not None for entry in held.entries)
+    if rules.allow_lines or rules.own or rules.tolerance or owned or held.unjudged != Unjudged.REFUSED:
+        return ttlv.structure(HEADER, ttlv.integer(VERSION, 2), unique, ttlv.enumeration(UNJUDGED, held.unjudged),
+                              ttlv.integer(TOLERANCE, rules.tolerance), ttlv.enumeration(VISIBILITY, EVERYONE))
+    return ttlv.structure(HEADER, ttlv.integer(VERSION, 1), unique)
+
+
+def _told(rules: Rules, held: Held) -> list[str]:
+    """The parts of the line that tells of a declaration."""
+    owned = sum(entry.owner is not None for entry in held.entries)
+    told = [f"{len(rules.rows)} rows", f"{len(held.entries)} entries"]
+    told += [f"{len(held.aside)} set aside"] if held.aside else []
     told += [f"{len(rules.allow_lines)} allow lines"] if rules.allow_lines else []
+    told += [f"{len(rules.own)} own lines"] if rules.own else []
     told += [f"{owned} owners"] if owned else []
     told += [f"a tolerance of {rules.tolerance} s"] if rules.tolerance else []
-    return ", ".join(told)
+    told += ["nothing is known of what isn't declared"] if held.unjudged == Unjudged.UNKNOWN else []
+    return told
 
 
 def _spelled(entry: Entry) -> bytes:

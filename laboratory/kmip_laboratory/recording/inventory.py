@@ -68,22 +68,28 @@ async def held(server: Address, context: ssl.SSLContext, version: Version, with_
                 for identifier in await _identifiers(questions, version)}
 
 
-def entries(by_client: dict[str, Held], with_bytes: bool, owners: dict[str, str]) -> list[Entry]:
-    """The entry of each object that has one by what somebody was told, and no other by what another was told. Where
-    several asked and one client alone is told of an object, it is that client's, if `owners` says nothing else."""
-    found, by_object = [], _by_object(by_client)
+def entries(by_client: dict[str, Held], with_bytes: bool, owners: dict[str, str],
+            sets_aside: bool = False) -> tuple[list[Entry], list[str]]:
+    """The entry of each object that has one by what somebody was told, and no other by what another was told; and the
+    identifiers of the others, which may be set aside. Where several asked and one client alone is told of an object, it
+    is that client's, if `owners` says nothing else."""
+    found, left, by_object = [], [], _by_object(by_client)
     for identifier, told in by_object.items():
         if len(set(told.values())) > 1:
             say(f"object {identifier}: left out, for {' and '.join(told)} are told different things of it")
+            left.append(identifier)
         elif told:
             owner = owners.get(identifier) or _owner(identifier, list(told), by_client)
             found.append(Entry(next(iter(told.values())), owner))
-    if len(found) < len(by_object):
-        say(f"{len(by_object) - len(found)} objects are left out: where a recorded call succeeds on one of them, the "
-            "auditor will say that there is no such object")
+        else:
+            left.append(identifier)
+    if left:
+        say(f"{len(left)} objects are left out: " + (
+            "they are set aside, and nothing about them is judged" if sets_aside else
+            "where a recorded call succeeds on one of them, the auditor will say that there is no such object"))
     if found and not with_bytes:
         say("the bytes of keys are left undeclared: the first Get of each will show them (--bytes asks for them)")
-    return found
+    return found, left
 
 
 def _owner(identifier: str, told: list[str], by_client: dict[str, Held]) -> Optional[str]:

@@ -1,8 +1,9 @@
-"""Rules of a server: which reasons have a cause, whether names are unique, what a state allows, and how far moments may
-be from Time Stamps.
+"""Rules of a server: which reasons have a cause, whether names are unique, what a state allows, what the server itself
+gives an object at birth, and how far moments may be from Time Stamps.
 
 A file of rules says one a line, as the words of `declare` do, without their dashes: `unique-names`,
-`reason 0x37=NotFound`, `allow Destroy,Active=not`, `tolerance 1`. What stands behind `#` is for whoever reads it.
+`reason 0x37=NotFound`, `allow Destroy,Active=not`, `own ActivationDate`, `tolerance 1`. What stands behind `#` is for
+whoever reads it.
 """
 
 from __future__ import annotations
@@ -54,6 +55,17 @@ class Allow(IntEnum):
     never = 3
 
 
+class Own(IntEnum):
+    """What a server may give an object by itself at birth, by its tag."""
+
+    Name = 0x420053
+    CryptographicAlgorithm = 0x420028
+    CryptographicLength = 0x42002A
+    CryptographicUsageMask = 0x42002C
+    ActivationDate = 0x420001
+    DeactivationDate = 0x42002F
+
+
 NEVER = "not"
 LONGEST_TOLERANCE = 86_400
 GONE = (State.Destroyed, State.DestroyedCompromised)
@@ -91,6 +103,8 @@ class Rules(NamedTuple):
     allow_lines: list[AllowLine]
     # How many seconds a moment may be away from the stamp of its answer.
     tolerance: int = 0
+    # What the server itself may give an object at birth.
+    own: tuple[Own, ...] = ()
 
 
 def read_row(words: str) -> Row:
@@ -123,6 +137,15 @@ def read_allow_line(words: str) -> AllowLine:
     return line
 
 
+def read_own(words: str) -> Own:
+    """What a server may give by itself, by its name."""
+    try:
+        return Own[words]
+    except KeyError:
+        raise argparse.ArgumentTypeError(f"{words!r} is nothing that a server gives by itself: that is one of "
+                                         f"{', '.join(it.name for it in Own)}") from None
+
+
 def read_tolerance(words: str) -> int:
     """The seconds that a moment may be away from its stamp."""
     seconds = int(words) if words.isascii() and words.isdecimal() and len(words) < 6 else -1
@@ -139,7 +162,7 @@ def read_file(path: str) -> Rules:
         raise Trouble(f"{path} can't be read: {error.strerror}; name a file of rules") from None
     except UnicodeDecodeError:
         raise Trouble(f"{path} is no text in UTF-8: name a file of rules") from None
-    unique_names, rows, allow_lines, tolerances = False, [], [], []
+    unique_names, rows, allow_lines, own, tolerances = False, [], [], [], []
     for place, line in enumerate(lines, 1):
         word, _, said = line.partition("#")[0].strip().partition(" ")
         try:
@@ -149,14 +172,17 @@ def read_file(path: str) -> Rules:
                 rows.append(read_row(said.strip()))
             elif word == "allow":
                 allow_lines.append(read_allow_line(said.strip()))
+            elif word == "own":
+                own.append(read_own(said.strip()))
             elif word == "tolerance":
                 tolerances.append(read_tolerance(said.strip()))
             elif word:
                 raise argparse.ArgumentTypeError(f"{line.strip()!r} is no rule: a line says unique-names, reason "
-                                                 "NUMBER=CAUSE, allow OPERATION,STATE=WORD or tolerance SECONDS")
+                                                 "NUMBER=CAUSE, allow OPERATION,STATE=WORD, own ATTRIBUTE or tolerance "
+                                                 "SECONDS")
         except argparse.ArgumentTypeError as trouble:
             raise Trouble(f"{path}, line {place}: {trouble}") from None
-    return Rules(unique_names, rows, allow_lines, max(tolerances, default=0))
+    return Rules(unique_names, rows, allow_lines, max(tolerances, default=0), tuple(own))
 
 
 def together(files: list[str], said: Rules) -> Rules:
@@ -169,4 +195,5 @@ def together(files: list[str], said: Rules) -> Rules:
         if cells[line.act, line.state] != line:
             raise Trouble(f"{line.act.name} in state {line.state.name} has two words: leave one of them away")
     return Rules(any(rules.unique_names for rules in every), [row for rules in every for row in rules.rows],
-                 list(cells.values()), max(rules.tolerance for rules in every))
+                 list(cells.values()), max(rules.tolerance for rules in every),
+                 tuple(dict.fromkeys(one for rules in every for one in rules.own)))

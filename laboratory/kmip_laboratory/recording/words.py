@@ -22,6 +22,7 @@ from ..versions import JUDGED
 from . import capture, declaration, identities, inventory, order, passes, proxy, rules
 from .admission import Admission
 from .connection import Way
+from .declaration import Unjudged
 from .numbers import add_segment_words, read_count, read_milliseconds, read_seconds, read_version
 from .heads import STANDARD_OUTPUT, Heads
 from .recorded_files import Keeping
@@ -108,9 +109,12 @@ def _add_declare(word: argparse.ArgumentParser) -> None:
     source = word.add_mutually_exclusive_group(required=True)
     source.add_argument("--empty", action="store_true", help="the server holds nothing")
     source.add_argument("--server", type=read_address, metavar="HOST:PORT", help="ask this server what it holds")
+    source.add_argument("--unknown", action="store_true", help="nothing is known of what the server holds")
     word.add_argument("--server-cert", metavar="FILE", help="certificate that the server is shown, in PEM")
     word.add_argument("--server-key", metavar="FILE", help="its key, in PEM")
     word.add_argument("--server-ca", metavar="FILE", help="authority of the server's certificate")
+    word.add_argument("--set-aside", action="store_true", help="declare that what isn't judged is set aside, also what "
+                      "the server tells of and no entry can say")
     word.add_argument("--as", dest="identities", action="append", default=[], metavar="NAME=CERT,KEY", help="ask as "
                       "this client too, and declare what any of them is told of; or a folder of NAME.pem and NAME.key; "
                       "may be repeated")
@@ -125,6 +129,8 @@ def _add_declare(word: argparse.ArgumentParser) -> None:
     word.add_argument("--allow", type=rules.read_allow_line, action="append", default=[],
                       metavar="OPERATION,STATE=WORD", help="the server's own word for an operation in a state: must, "
                       "may or not, as Destroy,Active=not")
+    word.add_argument("--own", type=rules.read_own, action="append", default=[], metavar="ATTRIBUTE",
+                      help="what the server itself may give an object at birth, as ActivationDate; may be repeated")
     word.add_argument("--tolerance", type=rules.read_tolerance, default=0, metavar="SECONDS", help="how far from the "
                       "Time Stamp of its answer a server may have done what it answers (0)")
     word.add_argument("--version", type=read_version, metavar="MAJOR.MINOR", default=JUDGED,
@@ -217,15 +223,24 @@ def _declare(words: argparse.Namespace) -> None:
     see_apart([words.out], [words.server_cert, words.server_key, words.server_ca, *words.rules,
                             *(path for each in shown for path in (each.certificate, each.key))])
     see_that_free(words.out, words.force, OUT_HINT)
-    said = rules.together(words.rules, rules.Rules(words.unique_names, words.reason, words.allow, words.tolerance))
-    entries: list[declaration.Entry] = []
-    if words.server:
-        if words.version != JUDGED:
-            say(f"the server is asked in version {words.version}")
-        by_client = {name: asyncio.run(inventory.held(words.server, context, words.version, words.bytes))
-                     for name, context in _asking(words, shown).items()}
-        entries = inventory.entries(by_client, words.bytes, dict(words.owner))
-    print(declaration.run(said, entries, words.out, words.force))
+    said = rules.together(words.rules, rules.Rules(words.unique_names, words.reason, words.allow, words.tolerance,
+                                                   tuple(words.own)))
+    print(declaration.run(said, _held(words, shown), words.out, words.force))
+
+
+def _held(words: argparse.Namespace, shown: list[identities.Identity]) -> declaration.Held:
+    """What the server holds, by what it tells where it is asked."""
+    if words.unknown:
+        return declaration.Held([], unjudged=Unjudged.UNKNOWN)
+    unjudged = Unjudged.SET_ASIDE if words.set_aside else Unjudged.REFUSED
+    if not words.server:
+        return declaration.Held([], unjudged=unjudged)
+    if words.version != JUDGED:
+        say(f"the server is asked in version {words.version}")
+    by_client = {name: asyncio.run(inventory.held(words.server, context, words.version, words.bytes))
+                 for name, context in _asking(words, shown).items()}
+    entries, left = inventory.entries(by_client, words.bytes, dict(words.owner), words.set_aside)
+    return declaration.Held(entries, left if words.set_aside else [], unjudged)
 
 
 def _asking(words: argparse.Namespace, shown: list[identities.Identity]) -> dict[str, ssl.SSLContext]:

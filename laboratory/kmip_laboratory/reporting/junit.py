@@ -4,6 +4,7 @@ from __future__ import annotations
 
 from xml.etree import ElementTree
 
+from ..judgement import Judgement, Sort
 from ..plain import plain_lines
 from ..verdicts import Outcome
 from .basis_in_text import numbers
@@ -11,7 +12,7 @@ from .judging import Judged
 from .reasons import in_short, in_words
 from .text import basis_lines
 
-JUDGED = (Outcome.YES, Outcome.NO, Outcome.GAVE_UP)
+JUDGED = (Outcome.YES, Outcome.NO, Outcome.GAVE_UP, Outcome.BUT_FOR)
 
 
 def told(recordings: list[Judged]) -> str:
@@ -38,4 +39,20 @@ def told(recordings: list[Judged]) -> str:
         if judged.read.basis is not None:
             printed = ElementTree.SubElement(case, "system-out")
             printed.text = plain_lines("\n".join(basis_lines(judged)))
+    return _spelled(suite)
+
+
+def told_of_judgement(folder: str, found: Judgement) -> str:
+    """The XML of one recording: explained it passes, and else it fails."""
+    is_explained = found.sort is Sort.EXPLAINED
+    failures = str(int(not is_explained))
+    suite = ElementTree.Element("testsuite", name="kmip_audit", tests="1", failures=failures, errors="0")
+    case = ElementTree.SubElement(suite, "testcase", classname="kmip_audit", name=plain_lines(folder))
+    if not is_explained:
+        trouble = ElementTree.SubElement(case, "failure", message=plain_lines(found.lines[0]), type=found.sort.value)
+        trouble.text = plain_lines("\n".join(found.lines))
+    return _spelled(suite)
+
+
+def _spelled(suite: ElementTree.Element) -> str:
     return '<?xml version="1.0" encoding="utf-8"?>\n' + ElementTree.tostring(suite, encoding="unicode") + "\n"

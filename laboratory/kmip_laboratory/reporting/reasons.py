@@ -32,6 +32,7 @@ MEANING: dict[Outcome, str] = {
     Outcome.DEVICE: "Not judged: a file could not be read.",
     Outcome.MEMORY: "Not judged: memory ran out.",
     Outcome.LATE: "Not judged: the auditor was given no more time (--seconds).",
+    Outcome.BUT_FOR: "Explained but for what the witness sets aside: the other answers can all be explained.",
 }
 PREMISES = (
     "A yes says that some inventory fits the declaration, and that doing one call after the other from there, by the "
