@@ -12,7 +12,8 @@ GLIBC = re.compile(rb"\0GLIBC_(\d+)\.(\d+)(?=[.\0])")
 ABOUT = """\
  It says whether the answers of a key server can all be explained by its
  calls having been done one at a time, in an order that it is given or
- finds. Each answer of kmip_audit is proved: STATEMENT, in
+ finds. Each verdict of kmip_audit is proved, but not how many steps a
+ search tells, nor that a place that it tells is its deepest: STATEMENT, in
  /usr/share/doc/kmip-audit, says what was.
  .
  Beside it are kmip_record, which makes recordings, kmip_drive, which makes

@@ -4,7 +4,7 @@ from __future__ import annotations
 
 import re
 import time
-from typing import Iterator, NamedTuple
+from typing import Iterator, NamedTuple, Optional
 
 from . import repository
 from .proof import CRATE, digest
@@ -20,6 +20,10 @@ PROVED = """\
 The kit's compiler builds a crate only where it proves that each of its functions is safe, ends, and meets its contract:
 what holds of what it is given, and of what it answers. It did so for all crates of which the program is made, as this
 commit has them, and the program of this package is what it built of them.
+"""
+CLOSED = "What the gate printed of each of them at its end, word for word:"
+NOT_CLOSED = """\
+No run of the gate is noted of this program: `rt run` built it, which proves each crate ahead of that.
 """
 REST = """\
 What the contracts promise is said in docs/PROOFS.md, and what a yes means in README.md, each in
@@ -55,11 +59,11 @@ def with_commit(built: bytes, commit: str) -> bytes:
     return built.replace(NO_COMMIT, commit.encode())
 
 
-def text(version: str, commit: Commit, kit: str, program: Program, proved: bool) -> str:
-    """The whole statement."""
+def text(version: str, commit: Commit, kit: str, program: Program, closing: Optional[dict[str, list[str]]]) -> str:
+    """The whole statement; with the lines with which the gate closed each crate, or None where nothing was proved."""
     crates = list(crates_of_program())
     moment = time.strftime("%Y-%m-%dT%H:%M:%SZ", time.gmtime(commit.moment))
-    head = [f"kmip-audit {version}: {'what was proved' if proved else 'NOT PROVED'}", "",
+    head = [f"kmip-audit {version}: {'NOT PROVED' if closing is None else 'what was proved'}", "",
             f"commit   {commit.name}, of {moment}", f"kit      {kit}",
             f"program  kmip_audit, SHA-256 {digest(program.packaged)}",
             f"built    SHA-256 {digest(program.built)}, without the commit that --version tells", ""]
@@ -67,7 +71,9 @@ def text(version: str, commit: Commit, kit: str, program: Program, proved: bool)
     total = sum(crate.functions for crate in crates)
     body = [PROVED, "Crates, with the functions that are written in each:", "", *rows,
             f"  {'together':<16}{total:>6,}", ""]
-    return "\n".join([*head, *(body if proved else [UNPROVED]), REST])
+    lines = [f"  {line}" for crate in crates for line in (closing or {}).get(crate.name, [])]
+    body += [CLOSED, "", *lines, ""] if lines else [NOT_CLOSED]
+    return "\n".join([*head, *([UNPROVED] if closing is None else body), REST])
 
 
 def crates_of_program() -> Iterator[Crate]:

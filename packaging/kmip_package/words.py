@@ -76,7 +76,8 @@ def _packages(program: Path, version: str, proved: bool) -> dict[str, bytes]:
     """All files that are made, by their names."""
     commit, built = repository.commit(), program.read_bytes()
     binary = statement.with_commit(built, commit.name)
-    stated = statement.text(version, commit, proof.kit(), statement.Program(binary, built), proved)
+    closing = proof.closing() if proved else None
+    stated = statement.text(version, commit, proof.kit(), statement.Program(binary, built), closing)
     day = time.strftime("%Y-%m-%d", time.gmtime(commit.moment))
     made = Made(version, day, binary, stated, list(contents.completions_of(program)))
     of_debian, of_archive = contents.files(made, of_debian=True), contents.files(made, of_debian=False)

@@ -72,7 +72,7 @@ class Bytes(unittest.TestCase):
         self.assertEqual("NOT PROVED" in stated, not IS_BUILT)
 
     def test_the_crates_are_those_that_the_program_stands_on(self) -> None:
-        stated = statement.text("0", repository.commit(), "", statement.Program(b"", b""), proved=True)
+        stated = statement.text("0", repository.commit(), "", statement.Program(b"", b""), {})
         rows = re.findall(r"^  (\w+) +([\d,]+)$", stated, re.MULTILINE)
         counts = [int(count.replace(",", "")) for _, count in rows]
         self.assertEqual(sum(counts[:-1]), counts[-1])

@@ -23,6 +23,18 @@ run) echo "rt: what it proved"; exit "$(cat "{place}/status")" ;;
 esac
 """
 
+# What `rt ci` prints of crates ahead of that.
+CRATES = """\
+== kmipa_ttlv
+library core: modules loaded=1
+logic=proved functions=123 sum=1
+rt: kmipa_ttlv proved
+== kmipa_ttlv: its tests
+logic=proved functions=9 sum=2
+rt: kmipa_ttlv: its tests are proved
+rt: kmipa_attrs is kept: an earlier run
+"""
+
 
 class Refusals(unittest.TestCase):
     """A clone of the repository, with the program beside its crate and a kit's command of the test's own."""
@@ -84,12 +96,14 @@ class Refusals(unittest.TestCase):
                 self.assertIn("nothing says", self.refused())
 
     def test_one_that_passed_is_packaged(self) -> None:
-        self.assertEqual(self.noted(WELL + "14 passed, 0 failed\n"), 0)
+        self.assertEqual(self.noted(CRATES + WELL + "14 passed, 0 failed\n"), 0)
         done = self.asked("scripts/package", str(self.place / "made"))
         self.assertEqual(done.returncode, 0, done.stderr)
         stated = (self.place / "made/STATEMENT").read_text("utf-8")
         self.assertIn("kit      rattle-kit-1 logic 0123456789abcdef\n", stated)
         self.assertNotIn("NOT PROVED", stated)
+        self.assertIn("word for word:\n\n  logic=proved functions=123 sum=1\n  rt: kmipa_ttlv proved\n"
+                      "  rt: kmipa_attrs is kept: an earlier run\n\n", stated)
         again = self.asked("scripts/package", str(self.place / "made"))
         self.assertIn("is there already", again.stderr)
 
@@ -112,7 +126,7 @@ class Refusals(unittest.TestCase):
         self.commit("crates/kmip_audit/src/main.rt")
         self.assertIn("nothing says", self.refused())
         note = json.loads((self.out / "passed").read_text("utf-8"))
-        self.assertEqual(sorted(note), ["kit", "program", "sources"])
+        self.assertEqual(sorted(note), ["closing", "kit", "program", "sources"])
 
     def test_where_there_is_a_stamp_the_kit_is_asked(self) -> None:
         (self.out / "kmip_audit.stamp").write_text("0123", "utf-8")
