@@ -39,7 +39,7 @@ pub fn judge<P: Pace>(
 }
 
 /// What a proposal comes to, as far as a check confirms it.
-fn confirm(
+pub(crate) fn confirm(
     alloc: Global,
     transcript: &Transcript,
     declaration: &Declaration,

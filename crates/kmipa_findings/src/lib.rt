@@ -1,6 +1,7 @@
 //! What is found in a recording: an order of its calls, what has to be set aside in it, and each impossible answer.
 #![tactic(auto)]
 
+mod along;
 mod calls;
 mod confirming;
 mod copying;
@@ -17,6 +18,7 @@ mod setting;
 mod trying;
 mod walking;
 
+pub use along::judge_along;
 pub use finding::{Finding, Judged, Outcome, Undecided};
 pub use judging::judge;
 pub use ordering::judge_order;

@@ -71,7 +71,7 @@ fn propose_of<'a, P: Pace>(
 }
 
 /// Nothing is proposed.
-fn nothing(alloc: Global) -> Proposal
+pub(crate) fn nothing(alloc: Global) -> Proposal
     ensures { result.over ≡ None }
 {
     Proposal {

@@ -99,28 +99,74 @@ fn take_aside<L: Ledger>(
     let Some(call) = given.calls.get(place) else {
         return Ok(false);
     };
-    let stamp = stamp_at(given.steps, place);
+    let impossible = Impossible {
+        rules: given.rules,
+        grants: given.grants,
+        call,
+        stamp: stamp_at(given.steps, place),
+        answer: (refusal.item, refusal.why),
+    };
+    let turn = Turn::bare(alloc, call.number);
+    let Some(settled) = take_partly(alloc, ledger, impossible, found, turn)? else {
+        return Ok(false);
+    };
+    road.settle(place, settled.moment);
+    Ok(true)
+}
+
+/// A call that is impossible by its turn: its Time Stamp where it can be read, and the item, counted from 1, with the reason.
+#[derive(Clone, Copy)]
+pub(crate) struct Impossible<'r, 'g, 'c, 'a> {
+    pub rules: &'r Rules,
+    pub grants: Grants<'g>,
+    pub call: &'c Recorded<'a>,
+    pub stamp: Option<i64>,
+    pub answer: (usize, Why),
+}
+
+/// A call that is taken for good: its moment, where it can be read.
+#[derive(Clone, Copy)]
+pub(crate) struct Settled {
+    pub moment: Option<i64>,
+}
+
+/// Takes a call for good by a turn, with what is impossible set aside: one item after the other, or all of it. None where the turn doesn't fit then.
+pub(crate) fn take_partly<L: Ledger>(
+    alloc: Global,
+    ledger: &mut L,
+    impossible: Impossible,
+    found: &mut Found,
+    turn: Turn,
+) -> Result<Option<Settled>, Fault>
+    requires sound { IsSound (L.state ledger.old).now }
+    ensures { OnOk result (IsSound (L.state ledger.new).now) }
+{
+    let Impossible {
+        rules,
+        grants,
+        call,
+        stamp,
+        answer,
+    } = impossible;
     let first = found.findings.len();
-    let mut turn = Turn::bare(alloc, call.number);
-    let mut item = refusal.item;
-    let mut why = refusal.why;
+    let mut turn = turn;
+    let (mut item, mut why) = answer;
     'asides: for _ in 0..u64::MAX {
         note(alloc, found, first, &turn, (item, why), stamp)?;
         set_more_aside(&mut turn, item, why)?;
-        match try_turn(alloc, ledger, given.rules, &given.grants, call, &turn)? {
+        match try_turn(alloc, ledger, rules, &grants, call, &turn)? {
             Tried::Taken(moment) => {
-                road.settle(place, moment);
                 found.turns.push(turn)?;
-                return Ok(true);
+                return Ok(Some(Settled { moment }));
             }
             Tried::Refused(other, reason) => {
                 item = other;
                 why = reason;
             }
-            Tried::Unfit => return Ok(false),
+            Tried::Unfit => return Ok(None),
         }
     }
-    Ok(false)
+    Ok(None)
 }
 
 /// The Time Stamp of the call of a step, where it is there and can be read.

@@ -6,7 +6,7 @@ use super::check;
 use super::spelled::{
     ACTIVATE_K1, ACTIVATED_K1, GET_K1, GOT_K1, PRE_ACTIVE_K1, STATE_OF_K1, bytes_of,
 };
-use kmipa_findings::{Finding, Judged, Outcome, Pace, Unpaced, judge};
+use kmipa_findings::{Finding, Judged, Outcome, Pace, Unpaced, judge, judge_along};
 use kmipa_ops::Why;
 use kmipa_record::{
     Begin, Declaration, End, Mark, Reach, Transcript, Turn, read_declaration_within,
@@ -205,6 +205,21 @@ fn judged(rt: &impl Abort, alloc: Global, seen: &[Seen]) -> Judged {
     }
 }
 
+// What is found along the calls of these numbers, where that is told.
+fn found_along(rt: &impl Abort, alloc: Global, seen: &[Seen], order: &[i32]) -> Option<Judged> {
+    let transcript = recorded(rt, alloc, seen);
+    let declaration = nothing_declared(rt, alloc);
+    let mut turns = Vec::new(alloc);
+    for call in order {
+        turns.push(Turn::bare(alloc, *call)).expect(rt, "memory");
+    }
+    match judge_along(alloc, &transcript, &declaration, &turns, 9) {
+        Ok(Some(Outcome::Judged(judged))) => Some(judged),
+        Ok(None) => None,
+        _ => rt.panic("memory"),
+    }
+}
+
 // Checks the calls of a witness, in its order, and what is set aside in each.
 fn check_turns(rt: &impl Abort, turns: &[Turn], expected: &[(i32, &[i32])]) {
     check(rt, turns.len() == expected.len(), "as many turns");
@@ -319,4 +334,41 @@ fn a_small_budget_decides_nothing(rt: HostRuntime) {
         }
         _ => rt.panic("decided"),
     }
+}
+
+#[test]
+fn an_order_is_judged_as_it_stands(rt: HostRuntime) {
+    let right = found_along(&rt, rt.alloc(), &OVERLAPPING, &[1, 3, 2]);
+    let right = right.expect(&rt, "told");
+    check(&rt, right.findings.is_empty(), "no finding");
+    check_turns(&rt, &right.witness.turns, &[(1, &[]), (3, &[]), (2, &[])]);
+    check(&rt, right.steps == 9, "with the steps that it took");
+    let other = found_along(&rt, rt.alloc(), &OVERLAPPING, &[1, 2, 3]);
+    let other = other.expect(&rt, "told");
+    check(&rt, other.findings.len() == 1, "one finding");
+    check_finding(&rt, &other.findings[0], 2, 3, Why::AttributeDiffers);
+    check_turns(&rt, &other.witness.turns, &[(1, &[]), (2, &[]), (3, &[1])]);
+    check(&rt, !other.is_decided, "another order was possible");
+}
+
+#[test]
+fn a_stamp_runs_back_along_an_order(rt: HostRuntime) {
+    let judged = found_along(&rt, rt.alloc(), &EARLIER, &[1, 2, 4]);
+    let judged = judged.expect(&rt, "told");
+    check(&rt, judged.findings.len() == 1, "one finding");
+    let finding = &judged.findings[0];
+    check(&rt, finding.refused.item == 0, "the turn itself");
+    check(&rt, finding.refused.why == Why::StampRunsBack, "runs back");
+    check_turns(&rt, &judged.witness.turns, &[(1, &[]), (2, &[0]), (4, &[])]);
+    check(&rt, judged.is_decided, "no order explains all answers");
+}
+
+#[test]
+fn nothing_is_told_along_an_order_that_no_witness_has(rt: HostRuntime) {
+    let short = found_along(&rt, rt.alloc(), &FAULTLESS, &[1, 2, 3]);
+    check(&rt, short.is_none(), "a call is left out");
+    let back = found_along(&rt, rt.alloc(), &FAULTLESS, &[1, 3, 2, 4]);
+    check(&rt, back.is_none(), "a call comes too late");
+    let strange = found_along(&rt, rt.alloc(), &FAULTLESS, &[1, 2, 3, 4, 5]);
+    check(&rt, strange.is_none(), "no such call");
 }
