@@ -102,6 +102,8 @@ pub struct JudgeWords {
     pub seconds: u64,
     /// Tells nothing on standard error while it searches.
     pub quiet: bool,
+    /// Prints one JSON object in place of the lines.
+    pub json: bool,
 }
 
 /// What the words ask for, with the names of the files that it reads.

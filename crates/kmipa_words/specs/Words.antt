@@ -106,9 +106,9 @@ judge_files_app = with_rule (with_rule (new_app (codes "judge")) (file_rule (cod
 abbrev pub judge_made_app : App
 judge_made_app = with_rule (with_rule judge_files_app (option_rule (codes "witness"))) (option_rule (codes "declaration"))
 
--- and after that `[--budget N] [--seconds N] [--quiet]`
+-- and after that `[--budget N] [--seconds N] [--quiet] [--json]`
 abbrev pub judge_steps_app : App
-judge_steps_app = with_rule (with_rule (with_rule judge_made_app budget_rule) seconds_rule) (flag_rule (codes "quiet"))
+judge_steps_app = with_rule (with_rule (with_rule (with_rule judge_made_app budget_rule) seconds_rule) (flag_rule (codes "quiet"))) (flag_rule (codes "json"))
 
 -- and after that `[--head HEX] [--torn]`
 abbrev pub judge_app : App
@@ -194,7 +194,7 @@ IsSearch job rows = ⊥
 abbrev pub IsJudge : Job → List Row → Type 0
 IsJudge (Judge files judging seals) rows = (first_of (codes "TRANSCRIPT") rows ≡ Some files.transcript.now) × IsText (codes "DECLARATION") rows files.declaration
     × IsText (codes "witness") rows files.witness × IsText (codes "declaration") rows files.used × IsNumber (codes "budget") rows judging.budget
-    × IsNumber (codes "seconds") rows judging.seconds × IsFlag (codes "quiet") rows judging.quiet × IsSealed seals rows
+    × IsNumber (codes "seconds") rows judging.seconds × IsFlag (codes "quiet") rows judging.quiet × IsFlag (codes "json") rows judging.json × IsSealed seals rows
 IsJudge job rows = ⊥
 
 -- these values are of this chain

@@ -103,6 +103,7 @@ W by witness, O by object'. Where the seconds are over it is 'not decided: N sec
 Without DECLARATION nothing is known of the server: 'assumed: nothing is declared' is the second line, and an object is
 judged from where the recording shows it born. A server may hide objects from some clients: where clients of two or more
 names made the calls, nobody is convicted without a declaration. Up to a blank or a slash a client's text is its name.
+Where one rule of a server explains every answer, 'explained with: RULE' stands behind the findings.
 
 What isn't judged is set aside, also where the declaration would end a check there. At every first line but undecided,
 --witness writes the order with all that is set aside, and --declaration the declaration that was used: with these check
@@ -111,6 +112,8 @@ accepts the recording but for the findings.
 Of a sealed transcript the last line behind an answer is 'sealed: RECORDING segment N head HEX'. Where --head gives
 another head, or the transcript bears no seals, 'head: HEX, expected HEX' stands in its place, and nothing is written.
 With --torn a sealed transcript without its close is judged up to its last whole record.
+
+With --json one JSON object stands in place of all lines, and says the same.
 
 With --seconds it ends once N seconds are over since it began, unless N is 0. Where standard error is a terminal, a long
 search tells there once a second how far it got, unless --quiet is given.

@@ -150,7 +150,7 @@ pub(crate) fn judge<'a>(alloc: Global) -> Result<Command<'a>, AllocError>
     judge_with_steps(alloc)?.arg(head(alloc))?.arg(torn(alloc))
 }
 
-/// A judging with the options of what it makes, and of how it searches.
+/// A judging with the options of what it makes, of how it searches, and of what it prints.
 pub(crate) fn judge_with_steps<'a>(alloc: Global) -> Result<Command<'a>, AllocError>
     ensures app { IfOk result (λ command. app_of command ≡ judge_steps_app) }
     ensures local { IfOk result (λ command. (out-Command command).has_globals ≡ false) }
@@ -162,7 +162,8 @@ pub(crate) fn judge_with_steps<'a>(alloc: Global) -> Result<Command<'a>, AllocEr
             alloc,
             QUIET,
             "Tells nothing on standard error while it searches",
-        ))
+        ))?
+        .arg(flag(alloc, JSON, "Prints one JSON object in place of the lines"))
 }
 
 /// A judging with the options of what it makes.

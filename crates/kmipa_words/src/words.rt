@@ -33,7 +33,7 @@ pub struct Usage {
 ///
 /// - `kmip_audit check TRANSCRIPT DECLARATION WITNESS [--seconds N] [--explain] [--json] [--leaves OUT] [--not-before DATE] [--head HEX] [--torn]`
 /// - `kmip_audit search TRANSCRIPT DECLARATION OUT [--budget N] [--seconds N] [--forced] [--open] [--quiet] [--explain] [--json] [--leaves LEFT] [--not-before DATE] [--head HEX] [--torn]`, each N from 0 to 1,000,000,000
-/// - `kmip_audit judge TRANSCRIPT [DECLARATION] [--witness OUT] [--declaration OUT] [--budget N] [--seconds N] [--quiet] [--head HEX] [--torn]`
+/// - `kmip_audit judge TRANSCRIPT [DECLARATION] [--witness OUT] [--declaration OUT] [--budget N] [--seconds N] [--quiet] [--json] [--head HEX] [--torn]`
 /// - `kmip_audit chain DIR [--budget N] [--seconds N] [--quiet] [--leaves OUT] [--witnesses FOLDER]`
 /// - `kmip_audit show FILE [--messages] [--notes]`
 /// - `kmip_audit write HEX OUT`
@@ -177,10 +177,12 @@ fn judge_of<'a>(words: &ArgMatches<'a>) -> Option<Job<'a>>
         witness: words.get_str(MADE_WITNESS),
         used: words.get_str(USED),
     };
+    let json = words.get_flag(JSON);
     let judging = JudgeWords {
         budget: words.get_one::<u64>(BUDGET)?,
         seconds: words.get_one::<u64>(SECONDS)?,
         quiet: words.get_flag(QUIET),
+        json,
     };
     Some(Job::Judge {
         files,

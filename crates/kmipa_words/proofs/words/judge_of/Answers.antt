@@ -13,5 +13,6 @@ returns c =
       number_found f (codes "budget") c.in_ok-get_one.field-0 c.in_ok-get_one.ensures.none (λ t e. let read = c.in_ok-get_one.ensures.value t e in (read.0.0.0, read.0.1)),
       number_found f (codes "seconds") c.in_ok-get_one-2.field-0 c.in_ok-get_one-2.ensures.none (λ t e. let read = c.in_ok-get_one-2.ensures.value t e in (read.0.0.0, read.0.1)),
       flag_found f (codes "quiet") c.get_flag.result c.get_flag.ensures.none c.get_flag.ensures.value c.get_flag.ensures.other,
+      flag_found f (codes "json") c.get_flag-json.result c.get_flag-json.ensures.none c.get_flag-json.ensures.value c.get_flag-json.ensures.other,
       c.seals_of.ensures,
     )
