@@ -1,5 +1,9 @@
 mod ClientLemmas
+mod FormLemmas
+mod HeldLemmas
 mod LineLemmas
+mod ObjectLemmas
+mod RuleLemmas
 mod RunLemmas
 mod StatusLemmas
 mod UnjudgedLemmas

@@ -1,5 +1,5 @@
 -- What the statuses of a judging mean.
-use Rattle.std.proofs.Common.{◌≡◌, ◌≢◌, ◌⊎◌, inl, inr, ◌==◌, ◌&&◌, ℕ, Bool, true, false, if◌then◌else◌, IsTrue, List, Option, length, refl, sym, ap, ◌∙◌}
+use Rattle.std.proofs.Common.{◌≡◌, ◌≢◌, ◌⊎◌, inl, inr, ◌==◌, ℕ, Bool, true, false, if◌then◌else◌, IsTrue, List, Option, Some, None, length, refl, sym, ap, ◌∙◌}
 use Rattle.std.proofs.lemmas.Bool.{eqb-true}
 use Rattle.kmipa_ttlv.specs.declared.input.Input.{Input}
 use Rattle.kmipa_record.specs.Declarations.{DeclarationOf}
@@ -12,10 +12,17 @@ use Rattle.kmipa_findings.specs.declared.finding.Outcome.{Outcome}
 use Rattle.kmipa_findings.specs.declared.finding.Outcome.TheVariants as outcome
 use Rattle.kmipa_jobs.specs.declared.status.Status.{Status}
 use Rattle.kmipa_jobs.specs.declared.status.Status.TheVariants as status
+use Rattle.kmipa_check.specs.declared.auditing.AuditFault.{AuditFault}
+use Rattle.kmipa_runs.specs.Lines.{PrintsFault, fault_text}
+use Rattle.serde_json.specs.Data.{Members}
 use Rattle.kmipa_beside.proofs.StatusLemmas.{never_done, never_no}
-use Rattle.kmipa_judge.specs.Opinions.{Counts, opinion_by, opinion_found, opinion_of, opinion_status, opinion_unfound}
-use Rattle.kmipa_judge.specs.Runs.{IsReadAs, IsUsed, is_assumed, JudgesFiles, judged, unread, unsaid, tells, no_memory, Makes}
+use Rattle.kmipa_judge.specs.Opinions.{IsFair, opinion_by, opinion_found, opinion_of, opinion_status, opinion_unfound}
+use Rattle.kmipa_judge.specs.Forms.{ahead}
+use Rattle.kmipa_judge.specs.Runs.{IsReadAs, IsUsed, JudgesFiles, judged, unread, unsaid, tells, no_memory, Makes, Prints, PrintsFaultSo, is_assumed}
 use Rattle.kmipa_judge.specs.Statuses.{IsConvicted, IsExplained}
+use Rattle.kmipa_judge.specs.declared.form.JudgeForm.{JudgeForm}
+use Rattle.kmipa_judge.specs.declared.rule.Rule.{Rule}
+use Rattle.kmipa_judge.proofs.RunLemmas.{fault_said}
 use Rattle.kmipa_judge.specs.declared.opinion.Opinion.TheVariants.{Explained, NothingJudged, Convicted, Suspected, Undecided}
 
 -- ---- which opinions they are of
@@ -59,19 +66,14 @@ by_no n k decided denied = by (n == 0) denied
     by true e = absurd (unfound_no k e)
     by false e = found_no decided e
 
-both : (a b : Bool) → a && b ≡ true → (a ≡ true) × (b ≡ true)
-both true true e = (refl, refl)
-both true false e = let clash : false ≡ true = e in absurd cc
-both false b e = let clash : false ≡ true = e in absurd cc
-
 -- ---- of an outcome
 
-outcome_done : {R : Type 0} (seconds : ℕ) (t : Input R) (d : Option (Input R)) (marks : List MarkOf) (declared : DeclarationOf) (counts : Bool) (o : Outcome) (said : Status) (witness used : List ℕ)
-    → IsReadAs t marks → IsUsed d declared → Judges seconds marks declared o → said ≡ opinion_status (opinion_of counts o) → Makes declared o witness used → said ≡ status.Done
+outcome_done : {R : Type 0} (seconds : ℕ) (t : Input R) (d : Option (Input R)) (marks : List MarkOf) (declared : DeclarationOf) (o : Outcome) (said : Status) (witness used : List ℕ)
+    → IsReadAs t marks → IsUsed d declared → Judges seconds marks declared o → said ≡ opinion_status (opinion_of o) → Makes declared o witness used → said ≡ status.Done
     → IsExplained t d witness
-outcome_done seconds t d marks declared counts (outcome.Undecided u) said witness used read is judges ends makes done = let clash : status.GaveUp ≡ status.Done = sym ends ∙ done in absurd cc
-outcome_done seconds t d marks declared counts (outcome.Judged j) said witness used read is judges ends makes done =
-    let told = by_done (length j.findings.items) (tally_of j.tally) (j.is_decided && counts) (sym ends ∙ done) in
+outcome_done seconds t d marks declared (outcome.Undecided u) said witness used read is judges ends makes done = let clash : status.GaveUp ≡ status.Done = sym ends ∙ done in absurd cc
+outcome_done seconds t d marks declared (outcome.Judged j) said witness used read is judges ends makes done =
+    let told = by_done (length j.findings.items) (tally_of j.tally) j.is_decided (sym ends ∙ done) in
     record {
       marks = marks;
       read = read;
@@ -85,38 +87,51 @@ outcome_done seconds t d marks declared counts (outcome.Judged j) said witness u
       some = told.1;
     }
 
-outcome_no : {R : Type 0} (seconds : ℕ) (t : Input R) (d : Option (Input R)) (marks : List MarkOf) (declared : DeclarationOf) (counts : Bool) (o : Outcome) (said : Status)
-    → IsReadAs t marks → IsUsed d declared → Judges seconds marks declared o → Counts (is_assumed d) marks counts → said ≡ opinion_status (opinion_of counts o) → said ≡ status.No
-    → IsConvicted t d
-outcome_no seconds t d marks declared counts (outcome.Undecided u) said read is judges sure ends denied = let clash : status.GaveUp ≡ status.No = sym ends ∙ denied in absurd cc
-outcome_no seconds t d marks declared counts (outcome.Judged j) said read is judges sure ends denied =
-    let told = both j.is_decided counts (by_no (length j.findings.items) (tally_of j.tally) (j.is_decided && counts) (sym ends ∙ denied)) in
+outcome_no : {R : Type 0} (seconds : ℕ) (t : Input R) (d : Option (Input R)) (marks : List MarkOf) (declared : DeclarationOf) (o : Outcome) (said : Status)
+    → IsReadAs t marks → IsUsed d declared → Judges seconds marks declared o → IsFair (is_assumed d) marks o → said ≡ opinion_status (opinion_of o)
+    → said ≡ status.No → IsConvicted t d
+outcome_no seconds t d marks declared (outcome.Undecided u) said read is judges fair ends denied = let clash : status.GaveUp ≡ status.No = sym ends ∙ denied in absurd cc
+outcome_no seconds t d marks declared (outcome.Judged j) said read is judges fair ends denied =
+    let told = by_no (length j.findings.items) (tally_of j.tally) j.is_decided (sym ends ∙ denied) in
     record {
       marks = marks;
       read = read;
       declared = declared;
       used = is;
-      unexplained = judges.1 told.0;
-      of_one = λ assumed. elim (sure.0 told.1) [
-        | inl given ↦ let clash : true ≡ false = sym assumed ∙ given in absurd cc
-        | inr one ↦ one
-      ];
+      unexplained = judges.1 told;
+      of_one = fair told;
     }
 
 -- ---- of files
 
-pub done_is_explained : {R : Type 0} (seconds : ℕ) (t : Input R) (d : Option (Input R)) (said : Status) (lines witness used : List ℕ) → JudgesFiles seconds t d said lines witness used
-    → said ≡ status.Done → IsExplained t d witness
-done_is_explained seconds t d said lines witness used (unsaid silent nothing) done = let clash : status.Failed ≡ status.Done = sym silent.0 ∙ done in absurd cc
-done_is_explained seconds t d said lines witness used (unread fault fails prints nothing) done = absurd (never_done fault said lines (inl prints) done)
-done_is_explained seconds t d said lines witness used (judged marks read declared is (no_memory silent nothing)) done = let clash : status.Failed ≡ status.Done = sym silent.0 ∙ done in absurd cc
-done_is_explained seconds t d said lines witness used (judged marks read declared is (tells o)) done =
-    outcome_done seconds t d marks declared o.counts o.outcome said witness used read is o.judges o.prints.prints.ends o.makes done
+-- in which form so ever the status is that of the opinion
+prints_end : (before : Option Members) (assumed : Bool) (marks : List MarkOf) (declared : DeclarationOf) (o : Outcome) (rules : List Rule) (said : Status) (lines : List ℕ)
+    → Prints before assumed marks declared o rules said lines → said ≡ opinion_status (opinion_of o)
+prints_end None assumed marks declared o rules said lines p = p.prints.ends
+prints_end (Some before) assumed marks declared o rules said lines p = p.found.ends
 
-pub no_is_convicted : {R : Type 0} (seconds : ℕ) (t : Input R) (d : Option (Input R)) (said : Status) (lines witness used : List ℕ) → JudgesFiles seconds t d said lines witness used
-    → said ≡ status.No → IsConvicted t d
-no_is_convicted seconds t d said lines witness used (unsaid silent nothing) denied = let clash : status.Failed ≡ status.No = sym silent.0 ∙ denied in absurd cc
-no_is_convicted seconds t d said lines witness used (unread fault fails prints nothing) denied = absurd (never_no fault said lines (inl prints) denied)
-no_is_convicted seconds t d said lines witness used (judged marks read declared is (no_memory silent nothing)) denied = let clash : status.Failed ≡ status.No = sym silent.0 ∙ denied in absurd cc
-no_is_convicted seconds t d said lines witness used (judged marks read declared is (tells o)) denied =
-    outcome_no seconds t d marks declared o.counts o.outcome said read is o.judges o.sure o.prints.prints.ends denied
+fault_never : (before : Option Members) (fault : AuditFault) (said : Status) (lines : List ℕ) → PrintsFaultSo before fault said lines
+    → (said ≡ status.Done → ⊥) × (said ≡ status.No → ⊥)
+fault_never before fault said lines p =
+    let line : PrintsFault fault said (fault_text fault) = (fault_said before fault said lines p, refl) in
+    (never_done fault said (fault_text fault) (inl line), never_no fault said (fault_text fault) (inl line))
+
+pub done_is_explained : {R : Type 0} (seconds : ℕ) (form : JudgeForm) (t : Input R) (d : Option (Input R)) (said : Status) (lines witness used : List ℕ)
+    → JudgesFiles seconds form t d said lines witness used → said ≡ status.Done → IsExplained t d witness
+done_is_explained seconds form t d said lines witness used (unsaid silent nothing) done = let clash : status.Failed ≡ status.Done = sym silent.0 ∙ done in absurd cc
+done_is_explained seconds form t d said lines witness used (unread fault fails prints nothing) done = absurd ((fault_never (ahead form None t d) fault said lines prints).0 done)
+done_is_explained seconds form t d said lines witness used (judged marks read known knows declared is (no_memory silent nothing)) done =
+    let clash : status.Failed ≡ status.Done = sym silent.0 ∙ done in absurd cc
+done_is_explained seconds form t d said lines witness used (judged marks read known knows declared is (tells o)) done =
+    outcome_done seconds t d marks declared o.outcome said witness used read is o.judges
+    (prints_end (ahead form known t d) (is_assumed d) marks declared o.outcome o.rules said lines o.prints) o.makes done
+
+pub no_is_convicted : {R : Type 0} (seconds : ℕ) (form : JudgeForm) (t : Input R) (d : Option (Input R)) (said : Status) (lines witness used : List ℕ)
+    → JudgesFiles seconds form t d said lines witness used → said ≡ status.No → IsConvicted t d
+no_is_convicted seconds form t d said lines witness used (unsaid silent nothing) denied = let clash : status.Failed ≡ status.No = sym silent.0 ∙ denied in absurd cc
+no_is_convicted seconds form t d said lines witness used (unread fault fails prints nothing) denied = absurd ((fault_never (ahead form None t d) fault said lines prints).1 denied)
+no_is_convicted seconds form t d said lines witness used (judged marks read known knows declared is (no_memory silent nothing)) denied =
+    let clash : status.Failed ≡ status.No = sym silent.0 ∙ denied in absurd cc
+no_is_convicted seconds form t d said lines witness used (judged marks read known knows declared is (tells o)) denied =
+    outcome_no seconds t d marks declared o.outcome said read is o.judges o.fair
+    (prints_end (ahead form known t d) (is_assumed d) marks declared o.outcome o.rules said lines o.prints) denied

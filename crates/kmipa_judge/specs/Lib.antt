@@ -1,7 +1,11 @@
 pub mod Declaring
 pub mod Clients
 pub mod Opinions
+pub mod Rules
 pub mod Lines
 pub mod Unjudged
+pub mod Object
+pub mod Forms
+pub mod Reading
 pub mod Runs
 pub mod Statuses

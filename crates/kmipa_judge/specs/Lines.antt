@@ -1,5 +1,5 @@
 -- WHAT IS PRINTED OF A JUDGING (profile).
-use Rattle.std.specs.Prelude.{◌≡◌, ℕ, ◌+◌, Bool, true, false, List, [], ◌∷◌, ◌++◌, length, codes, Option, Some, None}
+use Rattle.std.specs.Prelude.{◌≡◌, ℕ, ◌+◌, Bool, true, false, List, [], ◌∷◌, ◌++◌, length, codes, Option, Some, None, flat_map}
 use Rattle.std.specs.Fmt.{decimal, signed_decimal}
 use Rattle.kmipa_ops.specs.Whys.{why_number, why_name}
 use Rattle.kmipa_check.specs.declared.verdict.Refused.{Refused}
@@ -11,6 +11,8 @@ use Rattle.kmipa_runs.specs.Lines.{line}
 use Rattle.kmipa_jobs.specs.declared.status.Status.{Status}
 use Rattle.kmipa_beside.specs.Lines.{PrintsStamp, judged_line}
 use Rattle.kmipa_judge.specs.Opinions.{findings_of, opinion_of, opinion_status, steps_of}
+use Rattle.kmipa_judge.specs.Rules.{explained_line}
+use Rattle.kmipa_judge.specs.declared.rule.Rule.{Rule}
 use Rattle.kmipa_judge.specs.declared.opinion.Opinion.{Opinion}
 use Rattle.kmipa_judge.specs.declared.opinion.Opinion.TheVariants.{Explained, NothingJudged, Convicted, Suspected, Undecided}
 
@@ -55,9 +57,9 @@ abbrev pub last_lines : Outcome → List ℕ
 last_lines (outcome.Judged j) = judged_line (tally_of j.tally).counts
 last_lines (outcome.Undecided u) = over_line u.over
 
--- By whether nothing is declared, and whether it counts that no order explains every answer: the lines of an outcome, and the status that goes with them.
-pub record PrintsOutcome (assumed counts : Bool) (o : Outcome) (said : Status) (lines : List ℕ) : Type 0 where
+-- By whether nothing is declared, and by which rules every answer is explained: the lines of an outcome, and the status that goes with them.
+pub record PrintsOutcome (assumed : Bool) (o : Outcome) (rules : List Rule) (said : Status) (lines : List ℕ) : Type 0 where
   pub found : List ℕ
   pub findings : PrintsFindings 1 (findings_of o) found
-  pub ends : said ≡ opinion_status (opinion_of counts o)
-  pub are : lines ≡ first_line (opinion_of counts o) (length (findings_of o)) (steps_of o) ++ (assumed_line assumed ++ (found ++ last_lines o))
+  pub ends : said ≡ opinion_status (opinion_of o)
+  pub are : lines ≡ first_line (opinion_of o) (length (findings_of o)) (steps_of o) ++ (assumed_line assumed ++ (found ++ (flat_map explained_line rules ++ last_lines o)))

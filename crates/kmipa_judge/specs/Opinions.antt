@@ -1,5 +1,5 @@
 -- WHAT IS SAID OF A RECORDING IN A WORD (profile).
-use Rattle.std.specs.Prelude.{◌≡◌, ◌⊎◌, ◌↔◌, ◌==◌, ◌&&◌, ℕ, Bool, true, false, if◌then◌else◌, IsTrue, List, length, map}
+use Rattle.std.specs.Prelude.{◌≡◌, ◌==◌, ◌↔◌, ◌⊎◌, ℕ, IsTrue, Bool, true, false, if◌then◌else◌, List, length, map}
 use Rattle.kmipa_record.specs.Marks.{MarkOf}
 use Rattle.kmipa_trail.specs.Tallies.{TallyOf}
 use Rattle.kmipa_trail.specs.Told.{tally_of}
@@ -34,10 +34,9 @@ opinion_found false = Suspected
 abbrev pub opinion_by : ℕ → TallyOf → Bool → Opinion
 opinion_by findings k decided = if findings == 0 then opinion_unfound k else opinion_found decided
 
--- by whether it counts, that no order explains every answer
-abbrev pub opinion_of : Bool → Outcome → Opinion
-opinion_of counts (outcome.Judged j) = opinion_by (length j.findings.items) (tally_of j.tally) (j.is_decided && counts)
-opinion_of counts (outcome.Undecided u) = Undecided
+abbrev pub opinion_of : Outcome → Opinion
+opinion_of (outcome.Judged j) = opinion_by (length j.findings.items) (tally_of j.tally) j.is_decided
+opinion_of (outcome.Undecided u) = Undecided
 
 abbrev pub opinion_status : Opinion → Status
 opinion_status Explained = status.Done
@@ -50,3 +49,8 @@ opinion_status Undecided = status.GaveUp
 -- isn't judged.
 abbrev pub Counts : Bool → List MarkOf → Bool → Type 0
 Counts assumed marks counts = IsTrue counts ↔ ((assumed ≡ false) ⊎ AreOfOne marks)
+
+-- that no order explains every answer is said of an outcome only where it counts
+abbrev pub IsFair : Bool → List MarkOf → Outcome → Type 0
+IsFair assumed marks (outcome.Judged j) = j.is_decided ≡ true → assumed ≡ true → AreOfOne marks
+IsFair assumed marks (outcome.Undecided u) = Unit {0}

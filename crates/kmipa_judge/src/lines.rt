@@ -5,29 +5,32 @@ ghost use Rattle.kmipa_findings.specs.Told.{finding_of};
 ghost use Rattle.kmipa_judge.specs.Lines.{PrintsFinding, PrintsFindings, PrintsOutcome, assumed_line, finding_line, first_line, last_lines, over_line, refused_part};
 
 use crate::opinion::{Opinion, findings_of, opinion_of, opinion_status, steps_of};
+use crate::rule::Rule;
+use crate::rule_lines::explained_lines;
 use kmipa_beside::{judged_line, stamp_line};
 use kmipa_check::Refused;
 use kmipa_findings::{Finding, Outcome};
 use kmipa_runs::Lines;
 use std::alloc::{AllocError, Global};
 
-/// The lines of an outcome, by whether nothing is declared, and whether it counts that no order explains every answer.
+/// The lines of an outcome, by whether nothing is declared, and by which rules every answer is explained.
 pub(crate) fn outcome_lines(
     alloc: Global,
     outcome: &Outcome,
     assumed: bool,
-    counts: bool,
+    rules: &[Rule],
 ) -> Result<Lines, AllocError>
-    ensures { IfOk result (λ lines. PrintsOutcome assumed counts outcome.now lines.status (string_bytes lines.text)) }
+    ensures { IfOk result (λ lines. PrintsOutcome assumed outcome.now rules.now lines.status (string_bytes lines.text)) }
 {
     let findings = findings_of(outcome);
-    let opinion = opinion_of(outcome, counts);
+    let opinion = opinion_of(outcome);
     let first = first_line(alloc, opinion, findings.len(), steps_of(outcome))?;
     let second = assumed_line(assumed);
     let found = finding_lines(alloc, findings)?;
+    let explained = explained_lines(alloc, rules)?;
     let last = last_lines(alloc, outcome)?;
     Ok(Lines {
-        text: format!(in alloc; "{first}{second}{found}{last}")?,
+        text: format!(in alloc; "{first}{second}{found}{explained}{last}")?,
         status: opinion_status(opinion),
     })
 }

@@ -1,6 +1,6 @@
 //! What is said of a recording in a word.
 
-ghost use Rattle.std.specs.Prelude.{◌≡◌, ◌&&◌, ℕ, length, map};
+ghost use Rattle.std.specs.Prelude.{◌≡◌, ℕ, length, map};
 ghost use Rattle.kmipa_trail.specs.Told.{tally_of};
 ghost use Rattle.kmipa_findings.specs.Told.{finding_of};
 ghost use Rattle.kmipa_judge.specs.Opinions.{findings_of, opinion_by, opinion_found, opinion_of, opinion_status, opinion_unfound, steps_of};
@@ -35,16 +35,14 @@ pub(crate) fn opinion_status(opinion: Opinion) -> Status
     }
 }
 
-/// What is said of an outcome, by whether it counts that no order explains every answer.
-pub(crate) fn opinion_of(outcome: &Outcome, counts: bool) -> Opinion
-    ensures { result ≡ opinion_of counts outcome.now }
+/// What is said of an outcome.
+pub(crate) fn opinion_of(outcome: &Outcome) -> Opinion
+    ensures { result ≡ opinion_of outcome.now }
 {
     match outcome {
-        Outcome::Judged(judged) => opinion_by(
-            judged.findings.len(),
-            &judged.tally,
-            judged.is_decided && counts,
-        ),
+        Outcome::Judged(judged) => {
+            opinion_by(judged.findings.len(), &judged.tally, judged.is_decided)
+        }
         Outcome::Undecided(_) => Opinion::Undecided,
     }
 }

@@ -16,8 +16,8 @@ use std::alloc::Global;
 
 /// The time that a search has by a watcher, who isn't told of its steps.
 #[derive(Drop)]
-struct Timed<'w, W> {
-    watch: &'w W,
+pub(crate) struct Timed<'w, W> {
+    pub watch: &'w W,
 }
 
 impl<W: Watch> Watch for Timed<'_, W> {

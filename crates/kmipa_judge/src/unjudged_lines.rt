@@ -93,7 +93,7 @@ fn operation_part(alloc: Global, operation: Option<u32>) -> Result<String, Alloc
 }
 
 /// The name of an operation, or its number in hexadecimal digits.
-fn operation_text(alloc: Global, number: u32) -> Result<String, AllocError>
+pub(crate) fn operation_text(alloc: Global, number: u32) -> Result<String, AllocError>
     ensures { IfOk result (λ text. string_bytes text ≡ operation_text number) }
 {
     match operation_name(number) {

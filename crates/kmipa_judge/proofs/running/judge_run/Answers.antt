@@ -5,9 +5,9 @@ use Rattle.kmipa_judge.proofs.running.judge_run.Goals as goal
 pub returns-clause-explained : goal.returns-clause-explained
 returns-clause-explained g c =
     let run = c.judge_both.result in
-    done_is_explained (g.W.Watch.seconds c.args.watch) c.judge_both.new.transcript (Some c.judge_both.new.declaration) run.status run.lines.items run.witness.items run.declaration.items c.judge_both.ensures.told
+    done_is_explained (g.W.Watch.seconds c.args.watch) c.args.form c.judge_both.new.transcript (Some c.judge_both.new.declaration) run.status run.lines.items run.witness.items run.declaration.items c.judge_both.ensures.told
 
 pub returns-clause-convicted : goal.returns-clause-convicted
 returns-clause-convicted g c =
     let run = c.judge_both.result in
-    no_is_convicted (g.W.Watch.seconds c.args.watch) c.judge_both.new.transcript (Some c.judge_both.new.declaration) run.status run.lines.items run.witness.items run.declaration.items c.judge_both.ensures.told
+    no_is_convicted (g.W.Watch.seconds c.args.watch) c.args.form c.judge_both.new.transcript (Some c.judge_both.new.declaration) run.status run.lines.items run.witness.items run.declaration.items c.judge_both.ensures.told
