@@ -1,4 +1,5 @@
 pub mod Checks
+pub mod Judgings
 pub mod Keeping
 pub mod Printing
 pub mod Sealing

@@ -9,6 +9,7 @@ use Rattle.kmipa_jobs.specs.declared.status.Status.{Status}
 use Rattle.kmipa_jobs.specs.declared.status.Status.TheVariants as status
 use Rattle.kmipa_session.specs.Checks.{Checks, ChecksInSegment}
 use Rattle.kmipa_jobs.specs.Jobs.{asked_of}
+use Rattle.kmipa_session.specs.Judgings.{judge_form, judge_voice}
 use Rattle.kmipa_session.specs.Since.{IsNoMoment, IsSince}
 use Rattle.kmipa_session.specs.Printing.{trouble_text, TellsLines, TellsRest, TellsTrouble, voice_of}
 use Rattle.kmipa_session.specs.Sealing.{IsExpected, IsNoSeal, IsOpenedAs, SaysOf, is_verdict, own_length}
@@ -131,7 +132,8 @@ module _ {F M E : Type 0} (made : M → List ℕ × List ℕ) (lacked : E → Bo
   abbrev pub HasJudged : JudgeFiles → Bool → JudgeWords → Option (List ℕ) → Did F M E → Status → List ℕ → Type 0
   HasJudged files torn words expected (did.Judged ft fd fw fu) said lines = (name_of ft ≡ files.transcript.now) × IsOpenedAs torn ft × IsOpenedBy files.declaration fd
       × ((witness used : List ℕ)
-      × SaysOf voice.Lines expected ft (λ ran told. JudgesFiles words.seconds (input_of ft) (option_map input_of fd) ran told witness used) said lines
+      × SaysOf (judge_voice words.json) expected ft
+      (λ ran told. JudgesFiles words.seconds (judge_form words.json (own_length (torn_of ft))) (input_of ft) (option_map input_of fd) ran told witness used) said lines
       × IsLeftAsAsked made files.witness witness said fw × IsLeftAsAsked made files.used used said fu)
   HasJudged files torn words expected other said lines = ⊥
 
@@ -178,7 +180,7 @@ module _ {F M E : Type 0} (made : M → List ℕ × List ℕ) (lacked : E → Bo
   abbrev pub RunsJudge : JudgeFiles → JudgeWords → SealWords → Did F M E → List ℕ → List ℕ → Bool → Status → Type 0
   RunsJudge files words seals done before after failed left = (IsNoSeal seals.head × TellsMistake done before after left)
       ⊎ ((expected : Option (List ℕ)) × IsExpected seals.head expected
-      × TellsWhat voice.Lines (HasJudged files seals.torn words expected) done before after failed left)
+      × TellsWhat (judge_voice words.json) (HasJudged files seals.torn words expected) done before after failed left)
 
   -- The items of a file with this name are shown, and printed as far as they could be; or it is refused.
   abbrev pub RunsShow : List ℕ → ShowOptions → Did F M E → List ℕ → List ℕ → Bool → Status → Type 0

@@ -2,10 +2,12 @@
 
 ghost use Rattle.std.specs.Prelude.{◌≡◌, ℕ, List};
 ghost use Rattle.kmipa_runs.specs.Knowing.{KnowsSeals};
+ghost use Rattle.kmipa_session.specs.Judgings.{judge_form, judge_voice};
 ghost use Rattle.kmipa_session.specs.Sealing.{KnowsTold};
 
 use crate::ran::{Ran, told_of};
-use kmipa_judge::JudgeRun;
+use crate::voice::Voice;
+use kmipa_judge::{JudgeForm, JudgeRun};
 use kmipa_record::Torn;
 
 /// What a judging said, and the bytes of a witness and of the declaration that was used, or none.
@@ -41,5 +43,23 @@ pub fn judged_files(torn: Option<Torn>, run: JudgeRun) -> JudgedFiles
         ran: told_of(torn, ran),
         witness,
         used: declaration,
+    }
+}
+
+/// How a judging is told that has nothing of its own to say.
+pub fn judge_voice(json: bool) -> Voice
+    ensures { result ≡ judge_voice json }
+{
+    if json { Voice::Object } else { Voice::Lines }
+}
+
+/// In which form a judging is told; of a torn transcript so many bytes are its own.
+pub fn judge_form(json: bool, torn: Option<u64>) -> JudgeForm
+    ensures { result ≡ judge_form json torn }
+{
+    if json {
+        JudgeForm::Object(torn)
+    } else {
+        JudgeForm::Lines
     }
 }

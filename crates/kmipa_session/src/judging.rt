@@ -3,18 +3,17 @@
 ghost use Rattle.std.specs.Prelude.{◌≡◌, ◌≢◌, ◌⊎◌, [], true, false, None, IfOk, IfSome, option_map};
 ghost use Rattle.kmipa_ttlv.specs.Input.{came_of};
 ghost use Rattle.kmipa_judge.specs.Runs.{JudgesFiles};
-ghost use Rattle.kmipa_session.specs.Sealing.{KnowsTold, is_verdict};
+ghost use Rattle.kmipa_session.specs.Judgings.{judge_form, judge_voice};
+ghost use Rattle.kmipa_session.specs.Sealing.{KnowsTold, is_verdict, own_length};
 ghost use Rattle.kmipa_session.specs.Sessions.{HasJudged, IsLeft, IsLeftAsAsked, IsOpenedBy, IsRefused, RunsJudge, TellsWhat};
 ghost use Rattle.kmipa_session.specs.Worlds.{input_of, name_of, torn_of};
-ghost use Rattle.kmipa_session.specs.declared.voice.Voice.TheVariants.{Lines};
 
 use crate::checking::{mistaken, open_transcript, test_leaves, test_left};
 use crate::did::{Did, Said, Session};
-use crate::judged::JudgedFiles;
+use crate::judged::{JudgedFiles, judge_voice};
 use crate::named::Named;
 use crate::sealing::{NoSeal, expected_of, is_verdict, say_seals};
 use crate::telling::{tell_done, tell_no_seal};
-use crate::voice::Voice;
 use crate::world::{Content, NO_LIMIT, Out, World};
 use kmipa_jobs::{JudgeFiles, JudgeWords, SealWords, Status};
 use kmipa_orders::Watch;
@@ -78,12 +77,13 @@ fn run_judging<'n, W: World, O: Out>(
     out: O,
     words: FindingWords<'n>,
 ) -> Session<'n, O, W::File, W::Made, W::Refusal>
-    ensures { TellsWhat W.made W.lacked Lines (HasJudged W.made W.lacked words.entry.files words.entry.torn words.entry.judging
-        words.entry.expected)
+    ensures { TellsWhat W.made W.lacked (judge_voice words.entry.judging.json) (HasJudged W.made W.lacked words.entry.files
+        words.entry.torn words.entry.judging words.entry.expected)
         result.did (O.printed out) (O.printed result.out) (O.has_failed result.out) result.status }
 {
     let done = judge_files(alloc, world, words);
-    tell_done(world, out, Voice::Lines, done)
+    let voice = judge_voice(words.judging.json);
+    tell_done(world, out, voice, done)
 }
 
 /// Opens the files that are named, in the order of the words, judges them, and makes those that are asked for.
@@ -95,7 +95,7 @@ fn judge_files<'n, W: World>(
     ensures { IfOk result (λ done.
         HasJudged W.made W.lacked words.entry.files words.entry.torn words.entry.judging words.entry.expected done.1
         done.0.status done.0.lines.items
-        ⊎ IsRefused W.made W.lacked Lines done.1 done.0.status done.0.lines.items) }
+        ⊎ IsRefused W.made W.lacked (judge_voice words.entry.judging.json) done.1 done.0.status done.0.lines.items) }
 {
     let files = words.files;
     if let Err(refusal) = test_outputs(world, files) {
@@ -117,7 +117,8 @@ fn judge_files<'n, W: World>(
     if ran.status == Status::Refused {
         hint_kinds(world, files, &ran.lines);
     }
-    let said = say_seals(alloc, Voice::Lines, words.expected, transcript.torn(), ran);
+    let voice = judge_voice(words.judging.json);
+    let said = say_seals(alloc, voice, words.expected, transcript.torn(), ran);
     let (one, other) = make_files(world, files, &witness, &used, said.status)?;
     Ok((said, Did::Judged(transcript, declaration, one, other)))
 }
@@ -153,8 +154,9 @@ fn judge_opened<'n, R: Read, W: Watch + Drop>(
 ) -> (JudgedFiles, Option<Named<'n, R>>)
     requires transcript { came_of (input_of transcript.old) ≡ [] }
     requires declaration { IfSome declaration (λ file. came_of (input_of file) ≡ []) }
-    ensures judges { JudgesFiles (W.seconds watch) (input_of transcript.new) (option_map input_of result.1)
-        result.0.ran.status result.0.ran.lines.items result.0.witness.items result.0.used.items }
+    ensures judges { JudgesFiles (W.seconds watch) (judge_form words.json (own_length (torn_of transcript.new)))
+        (input_of transcript.new) (option_map input_of result.1) result.0.ran.status result.0.ran.lines.items
+        result.0.witness.items result.0.used.items }
     ensures known { KnowsTold (torn_of transcript.new) (came_of (input_of transcript.new)) result.0.ran.status
         result.0.ran.head }
     ensures torn { torn_of transcript.new ≡ torn_of transcript.old }

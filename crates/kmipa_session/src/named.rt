@@ -1,7 +1,7 @@
 //! A file that was opened by its name, and the runs over such files.
 
 use crate::did::Said;
-use crate::judged::{JudgedFiles, judged_files};
+use crate::judged::{JudgedFiles, judge_form, judged_files};
 use crate::ran::{Ran, told_of};
 use crate::runs::{
     check_explained, check_explained_object, check_left, check_lines, check_object,
@@ -53,6 +53,7 @@ impl<'n, R: Read> Named<'n, R> {
     ghost use Rattle.kmipa_segments.specs.declared.next.Unjudged.{Unjudged};
     ghost use Rattle.kmipa_segments.specs.declared.segment_search.FoundSegment.{FoundSegment};
     ghost use Rattle.kmipa_session.specs.Checks.{Checks, ChecksInSegment};
+    ghost use Rattle.kmipa_session.specs.Judgings.{judge_form};
     ghost use Rattle.kmipa_session.specs.Sealing.{KnowsTold, own_length};
     ghost use Rattle.kmipa_session.specs.Searches.{Searches, SearchesInSegment, Shows};
     ghost use Rattle.kmipa_session.specs.Worlds.{input_of, name_of, torn_of};
@@ -224,7 +225,7 @@ impl<'n, R: Read> Named<'n, R> {
         (told_of(torn, ran), made, left)
     }
 
-    /// Judges a transcript by a declaration, and answers with what is said the bytes of what is made.
+    /// Judges a transcript by a declaration, tells it in lines or in an object, and answers with what is said the bytes of what is made.
     pub fn judge<W: Watch + Drop>(
         alloc: Global,
         words: JudgeWords,
@@ -234,8 +235,9 @@ impl<'n, R: Read> Named<'n, R> {
     ) -> JudgedFiles
         requires transcript { came_of (input_of transcript.old) ≡ [] }
         requires declaration { came_of (input_of declaration.old) ≡ [] }
-        ensures judges { JudgesFiles (W.seconds watch) (input_of transcript.new) (Some (input_of declaration.new))
-            result.ran.status result.ran.lines.items result.witness.items result.used.items }
+        ensures judges { JudgesFiles (W.seconds watch) (judge_form words.json (own_length (torn_of transcript.new)))
+            (input_of transcript.new) (Some (input_of declaration.new)) result.ran.status result.ran.lines.items
+            result.witness.items result.used.items }
         ensures known { KnowsTold (torn_of transcript.new) (came_of (input_of transcript.new)) result.ran.status
             result.ran.head }
         ensures torn { torn_of transcript.new ≡ torn_of transcript.old }
@@ -243,8 +245,10 @@ impl<'n, R: Read> Named<'n, R> {
         ensures declaration { name_of declaration.new ≡ name_of declaration.old }
     {
         let torn = transcript.torn;
+        let form = judge_form(words.json, own_length(torn));
         let run = judge_run(
             alloc,
+            form,
             &mut transcript.input,
             &mut declaration.input,
             words.budget,
@@ -261,14 +265,15 @@ impl<'n, R: Read> Named<'n, R> {
         watch: W,
     ) -> JudgedFiles
         requires { came_of (input_of self.old) ≡ [] }
-        ensures judges { JudgesFiles (W.seconds watch) (input_of self.new) None result.ran.status result.ran.lines.items
-            result.witness.items result.used.items }
+        ensures judges { JudgesFiles (W.seconds watch) (judge_form words.json (own_length (torn_of self.new))) (input_of self.new)
+            None result.ran.status result.ran.lines.items result.witness.items result.used.items }
         ensures known { KnowsTold (torn_of self.new) (came_of (input_of self.new)) result.ran.status result.ran.head }
         ensures torn { torn_of self.new ≡ torn_of self.old }
         ensures name { name_of self.new ≡ name_of self.old }
     {
         let torn = self.torn;
-        let run = judge_alone_run(alloc, &mut self.input, words.budget, watch);
+        let form = judge_form(words.json, own_length(torn));
+        let run = judge_alone_run(alloc, form, &mut self.input, words.budget, watch);
         judged_files(torn, run)
     }
 

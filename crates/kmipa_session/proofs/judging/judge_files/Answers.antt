@@ -1,10 +1,11 @@
 use Rattle.std.proofs.Common.{◌≡◌, ◌∙◌, inl, List, ℕ, Option, option_map, rules, subst}
 use Rattle.kmipa_judge.specs.Runs.{JudgesFiles}
 use Rattle.kmipa_record.specs.declared.torn.Torn.{Torn}
-use Rattle.kmipa_session.specs.Sealing.{SaysSeals}
+use Rattle.kmipa_session.specs.Judgings.{judge_form, judge_voice}
+use Rattle.kmipa_session.specs.Sealing.{SaysSeals, own_length}
 use Rattle.kmipa_session.specs.Sessions.{IsLeftAsAsked}
-use Rattle.kmipa_session.specs.Worlds.{input_of}
-use Rattle.kmipa_session.specs.declared.voice.Voice.TheVariants.{Lines}
+use Rattle.kmipa_session.specs.Worlds.{input_of, torn_of}
+use Rattle.kmipa_session.specs.declared.voice.Voice.{Voice}
 use Rattle.kmipa_session.proofs.JudgingLemmas.{opened_by}
 use Rattle.kmipa_session.proofs.judging.judge_files.Goals as goal
 
@@ -17,8 +18,10 @@ returns g c =
     let fd = run.result.1 in
     let said = c.say_seals-said.result in
     let files = c.args.words.files in
-    let S : Option Torn → Type 0 = λ t. SaysSeals Lines c.args.words.expected t ran.head ran.status ran.lines.items said.status said.lines.items in
-    let N : ℕ → Type 0 = λ n. JudgesFiles n (input_of run.new.transcript) (option_map input_of fd) ran.status ran.lines.items judged.witness.items judged.used.items in
+    let json = c.args.words.judging.json in
+    let V : Voice → Type 0 = λ v. SaysSeals v c.args.words.expected c.torn.result ran.head ran.status ran.lines.items said.status said.lines.items in
+    let S : Option Torn → Type 0 = λ t. SaysSeals (judge_voice json) c.args.words.expected t ran.head ran.status ran.lines.items said.status said.lines.items in
+    let N : ℕ → Type 0 = λ n. JudgesFiles n (judge_form json (own_length (torn_of run.new.transcript))) (input_of run.new.transcript) (option_map input_of fd) ran.status ran.lines.items judged.witness.items judged.used.items in
     let Q : List ℕ → Type 0 = λ b. IsLeftAsAsked made files.witness b said.status c.in_ok-one.one in
     let U : List ℕ → Type 0 = λ b. IsLeftAsAsked made files.used b said.status c.in_ok-one.other in
     let same : c.deref-2.result.now ≡ judged.witness.items = search rules in
@@ -30,7 +33,7 @@ returns g c =
       (
         judged.witness.items,
         judged.used.items,
-        (ran, subst N c.watch_of-watch.ensures run.ensures.judges, run.ensures.known, subst S c.torn.ensures c.say_seals-said.ensures),
+        (ran, subst N c.watch_of-watch.ensures run.ensures.judges, run.ensures.known, subst S c.torn.ensures (subst V c.judge_voice-voice.ensures c.say_seals-said.ensures)),
         subst Q same c.in_ok-one.ensures.witness,
         subst U same_used c.in_ok-one.ensures.used,
       ),
