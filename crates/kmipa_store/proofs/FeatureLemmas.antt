@@ -239,7 +239,7 @@ states_more old new xs s place knows is notes = λ known f p x at has.
       | inr b ↦ subst (λ (k : ℕ). is_noted new f k ≡ true) (is ∙ sym b.0) (n.2 f (ap (state_has f) (sym b.1) ∙ has))
     ]
 
-kept_before : {X : Type 0} (xs : List X) (y : X) (p : ℕ) (x : X) → slice_get xs p ≡ Some x → slice_get (xs ++ y ∷ []) p ≡ Some x
+pub kept_before : {X : Type 0} (xs : List X) (y : X) (p : ℕ) (x : X) → slice_get xs p ≡ Some x → slice_get (xs ++ y ∷ []) p ≡ Some x
 kept_before [] y p x e = cc
 kept_before (z ∷ xs) y zero x e = e
 kept_before (z ∷ xs) y (suc p) x e = kept_before xs y p x e

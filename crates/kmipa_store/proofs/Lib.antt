@@ -22,3 +22,4 @@ pub mod ClockLemmas
 pub mod AwaitLemmas
 pub mod PresentLemmas
 pub mod TallyLemmas
+pub mod SoughtLemmas

@@ -94,23 +94,29 @@ none_is None false e = cc
 none_is (Some x) true e = cc
 none_is (Some x) false e = refl
 
--- one object more, whose names were to be listed
-pub knows_pushed : (old new : LiveNames) (hs ys : List Held) (h g : Held) (place : ℕ) (ns : List NameOf) → KnowsLive old hs → ys ≡ hs ++ h ∷ [] → place ≡ length hs → slice_get ys place ≡ Some g
-    → ns ≡ g.card.given.names → NotesLive old place ns new → KnowsLive new ys
-knows_pushed old new hs ys h g place ns knows e is there named notes = λ whole.
-    let n = notes whole in
+-- an object that wasn't listed is listed where it is live
+followed : (alive : Bool) (mid new : LiveNames) (place : ℕ) (ns : List NameOf) → FollowsBy false alive mid place ns new → new.is_whole ≡ true
+    → (mid.is_whole ≡ true) × Keeps mid.names new.names × (alive ≡ true → AreListed new.names place ns)
+followed true mid new place ns f whole = let n = f whole in (n.0, n.1, λ e. n.2)
+followed false mid new place ns f whole =
+    (ap (λ (x : LiveNames). x.is_whole) (sym f) ∙ whole, subst (λ (x : LiveNames). Keeps mid.names x.names) (sym f) (λ hash p s h. h), λ e. let clash : false ≡ true = e in cc)
+
+-- one object more, which was to be listed where it is live
+pub knows_pushed : (old new : LiveNames) (hs ys : List Held) (h g : Held) (place : ℕ) → KnowsLive old hs → ys ≡ hs ++ h ∷ [] → place ≡ length hs → slice_get ys place ≡ Some g
+    → Follows old false place g new → KnowsLive new ys
+knows_pushed old new hs ys h g place knows e is there follows = λ whole.
+    let n = followed (live g.card) old new place g.card.given.names follows whole in
     let c = knows n.0 in
     record {
-      all = λ p f at alive. elim (get-append_cases hs h p f (ap (λ (x : List Held). slice_get x p) (sym e) ∙ at)) [
-        | inl b ↦ (λ s m of. n.1 (name_hash m.value m.kind) p s (c.all p f b alive s m of))
+      all = λ p x at alive s m of. elim (get-append_cases hs h p x (ap (λ (zs : List Held). slice_get zs p) (sym e) ∙ at)) [
+        | inl b ↦ n.1 (name_hash m.value m.kind) p s (c.all p x b alive s m of)
         | inr b ↦
             let here : p ≡ place = b.0 ∙ sym is in
-            let both : Some f ≡ Some g = sym at ∙ ap (slice_get ys) here ∙ there in
-            let same : f ≡ g = cc in
-            let Q : Held → Type 0 = λ x. AreListed new.names p x.card.given.names in
-            let R : ℕ → Type 0 = λ k. AreListed new.names k g.card.given.names in
-            let S : List NameOf → Type 0 = λ x. AreListed new.names place x in
-            subst Q (sym same) (subst R (sym here) (subst S named n.2))
+            let both : Some g ≡ Some x = sym there ∙ ap (slice_get ys) (sym here) ∙ at in
+            let same : g ≡ x = cc in
+            let Q : Held → Type 0 = λ z. live z.card ≡ true → AreListed new.names p z.card.given.names in
+            let R : ℕ → Type 0 = λ k. live g.card ≡ true → AreListed new.names k g.card.given.names in
+            subst Q same (subst R (sym here) n.2) alive s m of
       ];
     }
 
@@ -208,13 +214,6 @@ module _ (old new : LiveNames) (hs gs : List Held) (place : ℕ) (b h : Held) (l
 
   pub knows_led : (was_live : Bool) → was_live ≡ live b.card → Follows old was_live place h new → KnowsLive new gs
   knows_led was_live v f = knows_by was_live (live h.card) v refl f
-
--- an object that wasn't listed is listed where it is live
-followed : (alive : Bool) (mid new : LiveNames) (place : ℕ) (ns : List NameOf) → FollowsBy false alive mid place ns new → new.is_whole ≡ true
-    → (mid.is_whole ≡ true) × Keeps mid.names new.names × (alive ≡ true → AreListed new.names place ns)
-followed true mid new place ns f whole = let n = f whole in (n.0, n.1, λ e. n.2)
-followed false mid new place ns f whole =
-    (ap (λ (x : LiveNames). x.is_whole) (sym f) ∙ whole, subst (λ (x : LiveNames). Keeps mid.names x.names) (sym f) (λ hash p s h. h), λ e. let clash : false ≡ true = e in cc)
 
 -- another object at a place
 pub knows_exchanged : (old mid new : LiveNames) (hs ys : List Held) (place : ℕ) (h g : Held) → KnowsLive old hs → ys ≡ exchanged hs place h → slice_get ys place ≡ Some g

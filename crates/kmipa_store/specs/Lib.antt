@@ -21,3 +21,4 @@ pub mod Names
 pub mod LiveNames
 pub mod Features
 pub mod Tally
+pub mod Sought

@@ -1,7 +1,8 @@
 -- What a ledger answers of its objects' names, of what else they are and have, and of their states.
-use Rattle.std.specs.Prelude.{◌&&◌, ◌==◌, ℕ, ℤ, Bool, false, List, Option, Some, None, option_map, bytes_eq, slice_get, drop}
+use Rattle.std.specs.Prelude.{◌≡◌, ◌≤◌, ◌<◌, ◌&&◌, ◌||◌, ◌==◌, ℕ, ℤ, pos, Bool, true, false, not, List, Option, Some, None, option_map, bytes_eq, slice_get, drop}
 use Rattle.std.specs.List.{list_any, position_from}
 use Rattle.std.specs.Ordering.{int_eq}
+use Rattle.kmipa_attrs.specs.Filters.{FilterOf}
 use Rattle.kmipa_attrs.specs.ObjectTypes.{type_number}
 use Rattle.kmipa_attrs.specs.Sets.{NameOf}
 use Rattle.kmipa_object.specs.Inventory.{live}
@@ -59,3 +60,34 @@ next_with feature t from objects = position_from (has_feature feature t) from (d
 -- the state that the dates of the object at a place say at a moment, where there is one
 abbrev pub state_of_place : List Held → ℕ → ℤ → Option State
 state_of_place objects place t = option_map (λ (h : Held). state h.card.dates t) (slice_get objects place)
+
+-- what a filter asks for that an object has as long as it stands, or never
+pub record Lasting : Type 0 where
+  pub names : List NameOf
+  pub object_type : Option ℕ
+  pub algorithm : Option ℕ
+  pub length : Option ℤ
+
+abbrev pub lasting : FilterOf → Lasting
+lasting q = record { names = q.names; object_type = q.object_type; algorithm = q.algorithm; length = q.length }
+
+-- a feature is asked for, and the object doesn't have it; and so one of some names
+abbrev pub lacks_feature : Option Feature → Held → Bool
+lacks_feature None h = false
+lacks_feature (Some feature) h = not (has_feature feature (pos 0) h)
+
+abbrev pub lacks_name : List NameOf → Held → Bool
+lacks_name names h = list_any (λ (n : NameOf). not (has_name n.value n.kind h)) names
+
+-- the object lacks something of it
+abbrev pub lacks : Lasting → Held → Bool
+lacks asked h =
+    lacks_name asked.names h || lacks_feature (option_map Kind asked.object_type) h || lacks_feature (option_map Algorithm asked.algorithm) h || lacks_feature (option_map Length asked.length) h
+
+-- each object from one place to another does
+abbrev pub AllLack : Lasting → List Held → ℕ → ℕ → Type 0
+AllLack asked objects from to = (p : ℕ) (h : Held) → from ≤ p → p < to → slice_get objects p ≡ Some h → lacks asked h ≡ true
+
+-- a place from one on, ahead of which each does
+abbrev pub Leaps : Lasting → List Held → ℕ → ℕ → Type 0
+Leaps asked objects from to = (from ≤ to) × AllLack asked objects from to

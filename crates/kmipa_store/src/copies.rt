@@ -6,6 +6,7 @@ use crate::feature::Feature;
 use crate::ledger::{Ledger, Mark};
 use crate::objects::Objects;
 use crate::secrets::{Lesson, Secrets};
+use kmipa_attrs::Filter;
 use kmipa_object::{Life, Object, Rule, SecretNo, State};
 use std::alloc::Global;
 
@@ -91,6 +92,16 @@ impl Ledger for Copies {
     }
 
     fn prepare(&mut self, _feature: Feature) {}
+
+    fn ahead(&self, _filter: &Filter, from: usize) -> usize {
+        from
+    }
+
+    fn end_of(&self, _filter: &Filter) -> usize {
+        self.len()
+    }
+
+    fn remember(&mut self, _filter: &Filter, _from: usize, _to: usize) {}
 
     fn moment(&self) -> i64 {
         self.moment

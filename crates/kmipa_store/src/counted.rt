@@ -99,7 +99,7 @@ impl Counted {
         let place = self.objects.len();
         self.objects.push(object)?;
         let added = self.objects.at(place);
-        self.live.note(place, added.given.names.as_slice());
+        follow(&mut self.live, false, place, added);
         if self.tally.begins_with(added) {
             self.tally = Tally::of(self.alloc, &self.objects);
             return Ok(());

@@ -15,6 +15,7 @@ use crate::feature::Feature;
 use crate::ledger::{Ledger, Mark};
 use crate::present::Present;
 use crate::secrets::{Lesson, Secrets};
+use kmipa_attrs::Filter;
 use kmipa_object::{Life, Object, Rule, SecretNo, State};
 use std::alloc::Global;
 
@@ -119,6 +120,18 @@ impl Ledger for Journal {
 
     fn prepare(&mut self, feature: Feature) {
         self.present.prepare(feature);
+    }
+
+    fn ahead(&self, filter: &Filter, from: usize) -> usize {
+        self.present.ahead(filter, from)
+    }
+
+    fn end_of(&self, filter: &Filter) -> usize {
+        self.present.end_of(filter)
+    }
+
+    fn remember(&mut self, filter: &Filter, from: usize, to: usize) {
+        self.present.remember(filter, from, to);
     }
 
     fn moment(&self) -> i64 {

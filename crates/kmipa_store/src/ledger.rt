@@ -2,6 +2,7 @@
 
 use crate::fault::StoreFault;
 use crate::feature::Feature;
+use kmipa_attrs::Filter;
 use kmipa_object::{Life, Object, Rule, SecretNo, State};
 
 /// A place in the history of a ledger. It must be spent, by `keep`, `undo` or `back`, the newest first.
@@ -26,11 +27,12 @@ pub struct Mark {
 /// `add`, `replace`, `renew`, `new_secret`, `set_aside`, `take_in`, `mark` and `learn` of bytes that were unknown may take memory, and no
 /// other call does.
 pub trait Ledger {
-    ghost use Rattle.std.specs.Prelude.{◌≡◌, ◌<◌, ℤ, length, slice_get, string_bytes, Some, IfSome, option_map};
+    ghost use Rattle.std.specs.Prelude.{◌≡◌, ◌≤◌, ◌<◌, ℤ, length, slice_get, string_bytes, Some, IfSome, option_map};
     ghost use Rattle.kmipa_store.specs.Aside.{is_any_aside, is_named_aside};
     ghost use Rattle.kmipa_store.specs.Ledger.{LedgerState, held, cards_of, place_of, id_at, bytes_at, rest_set_aside, judging_ended, kept, undone, gone_back};
     ghost use Rattle.kmipa_store.specs.Calls.{Adds, Replaces, Renews, MakesSecret, Learns, SetsAside, TakesIn, SetsMark};
-    ghost use Rattle.kmipa_store.specs.Queries.{state_of_place, next_live_named, next_named, next_with, any_live_named};
+    ghost use Rattle.kmipa_attrs.specs.Filters.{filter_of};
+    ghost use Rattle.kmipa_store.specs.Queries.{AllLack, Leaps, lasting, state_of_place, next_live_named, next_named, next_with, any_live_named};
 
     /// Its objects, its secrets, what is set aside, and its marks.
     ghost state: { Self → LedgerState };
@@ -73,6 +75,22 @@ pub trait Ledger {
 
     /// From now on `next_with` is quick for features like this one, where there are many objects and memory for it. Nothing else changes.
     fn prepare(&mut self, feature: Feature)
+        ensures meaning { state self.new ≡ state self.old }
+        ensures moment { moment self.new ≡ moment self.old };
+
+    /// A place from this one on: each object from this one to there lacks something that lasts of what a filter asks for, a name, the type,
+    /// the algorithm or the length. It is far on where `remember` was told so.
+    fn ahead(&self, filter: &Filter, from: usize) -> usize
+        ensures { Leaps (lasting (filter_of filter.now)) (state self.now).now.objects from result };
+
+    /// From where on `remember` is to be told of a filter.
+    fn end_of(&self, filter: &Filter) -> usize
+        ensures { result ≤ length (state self.now).now.objects };
+
+    /// Each object from one place to another lacks something that lasts of what a filter asks for; where the places are one, the object there
+    /// may have all of it. From now on `ahead` is quick there, where there is memory for it. Nothing else changes.
+    fn remember(&mut self, filter: &Filter, from: usize, to: usize)
+        requires { AllLack (lasting (filter_of filter.now)) (state self.old).now.objects from to }
         ensures meaning { state self.new ≡ state self.old }
         ensures moment { moment self.new ≡ moment self.old };
 

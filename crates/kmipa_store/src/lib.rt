@@ -19,6 +19,7 @@ mod objects;
 mod present;
 mod secrets;
 mod slots;
+mod sought;
 mod states;
 mod tally;
 

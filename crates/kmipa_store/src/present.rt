@@ -14,12 +14,14 @@ use crate::fault::StoreFault;
 use crate::feature::Feature;
 use crate::features::Features;
 use crate::names::Names;
-use kmipa_attrs::Name;
+use crate::sought::Sought;
+use kmipa_attrs::{Filter, Name};
 use kmipa_object::{Life, Object, State};
 use std::alloc::Global;
 use std::marker::Model;
 
-/// Objects, counted by their names, an index of these, one of what else lasts, and a clock that tells the state of each object.
+/// Objects, counted by their names, an index of these, one of what else lasts, what was looked for among them, and a clock that tells the
+/// state of each object.
 ///
 /// # Names that are not listed
 /// What goes back to a mark finds its names listed already. Should one of them be not, and find no memory, all objects are looked at for a
@@ -31,6 +33,7 @@ pub struct Present {
     names: Names,
     are_names_listed: bool,
     features: Features,
+    sought: Sought,
     clock: Clock,
 }
 
@@ -40,20 +43,22 @@ impl Model for Present {
     ghost use Rattle.kmipa_store.specs.Features.{KnowsLasting};
     ghost use Rattle.kmipa_store.specs.Names.{Knows};
     ghost use Rattle.kmipa_store.specs.Present.{Standing};
+    ghost use Rattle.kmipa_store.specs.Sought.{KnowsSought};
 
     ghost Value = { Standing };
 
     ghost view = { λ p. record { dated = record { objects = p.objects; due = p.clock.due }; moment = p.clock.moment } };
 
-    ghost invariant = { λ p. (p.clock.states ≡ states_at p.objects p.clock.moment) × Knows p.are_names_listed p.names p.objects × KnowsLasting p.features p.objects };
+    ghost invariant = { λ p. (p.clock.states ≡ states_at p.objects p.clock.moment) × Knows p.are_names_listed p.names p.objects × KnowsLasting p.features p.objects × KnowsSought p.sought p.objects };
 }
 
 impl Present {
-    ghost use Rattle.std.specs.Prelude.{◌≡◌, ◌<◌, ◌++◌, ◌∷◌, [], pos, length, slice_get, string_bytes, Some, None, IfSome};
+    ghost use Rattle.std.specs.Prelude.{◌≡◌, ◌≤◌, ◌<◌, ◌++◌, ◌∷◌, [], pos, length, slice_get, string_bytes, Some, None, IfSome};
     ghost use Rattle.kmipa_object.specs.Lists.{updated};
     ghost use Rattle.kmipa_store.specs.Ledger.{held, cards_of, id_at, place_of, relived};
     ghost use Rattle.kmipa_store.specs.Present.{AreAwaited, Makes};
-    ghost use Rattle.kmipa_store.specs.Queries.{next_live_named, next_named, next_with, any_live_named, state_of_place};
+    ghost use Rattle.kmipa_attrs.specs.Filters.{filter_of};
+    ghost use Rattle.kmipa_store.specs.Queries.{AllLack, Leaps, lasting, next_live_named, next_named, next_with, any_live_named, state_of_place};
 
     /// No objects, at moment 0.
     pub fn new(alloc: Global) -> Present
@@ -66,6 +71,7 @@ impl Present {
             names: Names::new(alloc),
             are_names_listed: true,
             features: Features::new(alloc),
+            sought: Sought::new(alloc),
             clock: Clock::new(alloc),
         }
     }
@@ -157,6 +163,31 @@ impl Present {
         self.features = lasting_of(self.alloc, &self.objects);
     }
 
+    /// A place from this one on, ahead of which each object from this one on lacks something that lasts of what the filter asks for.
+    pub fn ahead(&self, filter: &Filter, from: usize) -> usize
+        ensures { Leaps (lasting (filter_of filter.now)) self.now.dated.objects from result }
+    {
+        self.sought.ahead(filter, from)
+    }
+
+    /// How far was looked for what the filter asks for.
+    pub fn end_of(&self, filter: &Filter) -> usize
+        ensures { result ≤ length self.now.dated.objects }
+    {
+        self.sought.end_of(filter, self.objects.len())
+    }
+
+    /// Each object from one place to another lacks something that lasts of what the filter asks for.
+    pub fn remember(&mut self, filter: &Filter, from: usize, to: usize)
+        requires { AllLack (lasting (filter_of filter.now)) self.old.dated.objects from to }
+        ensures { self.new ≡ self.old }
+    {
+        if self.objects.len() < to {
+            return;
+        }
+        self.sought.remember(filter, from, to);
+    }
+
     /// The moment of the states, in seconds since 1970-01-01T00:00:00Z.
     pub fn moment(&self) -> i64
         ensures { result ≡ self.now.moment }
@@ -224,6 +255,7 @@ impl Present {
         let mut other = Box::new(self.alloc, object)?;
         let brought = self.clock.note(place, life)?;
         exchange(&mut self.objects, &mut self.features, place, &mut other);
+        self.sought.touch(place);
         self.clock.tell(place, life);
         Ok(ObjectChange::Renewed(place, other, brought))
     }
@@ -239,7 +271,9 @@ impl Undo<ObjectChange> for Present {
             ObjectChange::Added(brought) => {
                 forget_last(&mut self.names, &mut self.features, &self.objects);
                 self.objects.pop();
-                self.clock.remove(self.objects.len(), brought);
+                let last = self.objects.len();
+                self.sought.touch(last);
+                self.clock.remove(last, brought);
             }
             ObjectChange::Replaced(place, life, brought) => {
                 self.objects.set_life(place, life);
@@ -253,6 +287,7 @@ impl Undo<ObjectChange> for Present {
                 let are_listed = list_again(&mut self.names, self.are_names_listed, place, names);
                 self.are_names_listed = are_listed;
                 exchange(&mut self.objects, &mut self.features, place, &mut former);
+                self.sought.touch(place);
                 self.clock.tell(place, led);
                 self.clock.forget(place, brought);
             }

@@ -7,16 +7,18 @@ use Rattle.kmipa_store.specs.Features.{KnowsLasting}
 use Rattle.kmipa_store.specs.Ledger.{Held, held}
 use Rattle.kmipa_store.specs.Names.{AreListed, Covers}
 use Rattle.kmipa_store.specs.Present.{Makes, Standing}
+use Rattle.kmipa_store.specs.Sought.{KnowsSought}
 use Rattle.kmipa_store.specs.declared.changes.ObjectChange.TheVariants.{Added}
 use Rattle.kmipa_store.proofs.FeatureLemmas.{lasts_more}
 use Rattle.kmipa_store.proofs.NameLemmas.{covers_noted, covers_pushed}
 use Rattle.kmipa_store.proofs.PresentLemmas.{Tells, makes_pushed, removed_same, stand, told_pushed}
+use Rattle.kmipa_store.proofs.SoughtLemmas.{sought_more}
 use Rattle.kmipa_store.proofs.present.Present.push.Goals as goal
 
 pub invariant_of-self : goal.invariant_of-self
 invariant_of-self c =
     let i = c.self.inside in
-    (c.self.invariant.0, λ w. covers_noted i.names c.note.new.self i.objects c.len-place.result (map name_of c.as_slice.result.now) c.note.result (c.self.invariant.1 w) c.note.ensures, c.self.invariant.2)
+    (c.self.invariant.0, λ w. covers_noted i.names c.note.new.self i.objects c.len-place.result (map name_of c.as_slice.result.now) c.note.result (c.self.invariant.1 w) c.note.ensures, c.self.invariant.2, c.self.invariant.3)
 
 pub invariant_of-self-in_err-brought : goal.invariant_of-self-in_err-brought
 invariant_of-self-in_err-brought c =
@@ -24,6 +26,7 @@ invariant_of-self-in_err-brought c =
       subst (λ (x : Time). Tells i.objects x) (sym c.in_err-brought.ensures.1) c.self.invariant.0,
       λ w. covers_noted i.names c.note.new.self i.objects c.len-place.result (map name_of c.as_slice.result.now) c.note.result (c.self.invariant.1 w) c.note.ensures,
       c.self.invariant.2,
+      c.self.invariant.3,
     )
 
 pub invariant_of-self-in-Ok : goal.invariant_of-self-in-Ok
@@ -33,6 +36,7 @@ invariant_of-self-in-Ok c =
       λ w. covers_pushed i.names c.note.new.self i.objects c.push.new.self (held c.args.object) c.len-place.result (c.self.invariant.1 w) c.len-place.ensures c.in_ok-note.ensures.0
           (subst (λ (x : List Name). AreListed c.note.new.self c.len-place.result (map name_of x)) c.as_slice.ensures c.in_ok-note.ensures.1) c.in-Ok.ensures,
       lasts_more i.features c.note_object.new.self i.objects c.push.new.self (held c.args.object) (held c.at.result.now) c.len-place.result c.self.invariant.2 c.in-Ok.ensures c.len-place.ensures c.at.ensures c.note_object.ensures,
+      sought_more i.sought i.objects c.push.new.self (held c.args.object) c.in-Ok.ensures c.self.invariant.3,
     )
 
 pub invariant_of-self-in-Err : goal.invariant_of-self-in-Err
@@ -44,6 +48,7 @@ invariant_of-self-in-Err c =
       λ w. subst (λ (x : List Held). Covers c.note.new.self x) (sym c.in-Err.ensures.1)
           (covers_noted i.names c.note.new.self i.objects c.len-place.result (map name_of c.as_slice.result.now) c.note.result (c.self.invariant.1 w) c.note.ensures),
       subst (λ (x : List Held). KnowsLasting i.features x) (sym c.in-Err.ensures.1) c.self.invariant.2,
+      subst (λ (x : List Held). KnowsSought i.sought x) (sym c.in-Err.ensures.1) c.self.invariant.3,
     )
 
 pub returns-in-Ok : goal.returns-in-Ok

@@ -14,6 +14,7 @@ use Rattle.kmipa_store.specs.declared.changes.ObjectChange.TheVariants.{Renewed}
 use Rattle.kmipa_store.proofs.ChangeLemmas.{at_id}
 use Rattle.kmipa_store.proofs.NameLemmas.{covers_exchanged}
 use Rattle.kmipa_store.proofs.PresentLemmas.{makes_exchanged, stand, told_exchanged}
+use Rattle.kmipa_store.proofs.SoughtLemmas.{differ_exchanged}
 use Rattle.kmipa_store.proofs.present.Present.renew.Goals as goal
 
 pub invariant_of-self-2 : goal.invariant_of-self-2
@@ -28,6 +29,7 @@ invariant_of-self-2 c =
       λ w. subst (λ (x : List Held). Covers c.note.new.self x) (sym now)
           (covers_exchanged i.names c.note.new.self i.objects place (held o) (c.self.invariant.1 w) c.in_ok-note.ensures.0 (subst (λ (x : List Name). AreListed c.note.new.self place (map name_of x)) c.as_slice-names.ensures c.in_ok-note.ensures.1)),
       c.exchange.ensures.features c.self.invariant.2,
+      c.touch.ensures i.objects c.exchange.new.objects (differ_exchanged i.objects c.exchange.new.objects place (held o) now) c.self.invariant.3,
     )
 
 pub returns : goal.returns

@@ -9,6 +9,7 @@ use Rattle.kmipa_store.specs.declared.changes.ObjectChange.TheVariants.{Replaced
 use Rattle.kmipa_store.proofs.FeatureLemmas.{lasts_led}
 use Rattle.kmipa_store.proofs.NameLemmas.{covers_relived}
 use Rattle.kmipa_store.proofs.PresentLemmas.{makes_relived, stand, told_relived}
+use Rattle.kmipa_store.proofs.SoughtLemmas.{sought_led}
 use Rattle.kmipa_store.proofs.present.Present.set_life.Goals as goal
 
 pub invariant_of-self-2 : goal.invariant_of-self-2
@@ -18,6 +19,7 @@ invariant_of-self-2 c =
       told_relived i.objects c.set_life.new.self c.args.place c.args.life i.clock c.tell.new.self (noted_life i.clock.moment i.clock.due c.args.place c.args.life) c.self.invariant.0 c.set_life.ensures (c.tell.ensures ∙ ap after c.in_ok-brought.ensures.0),
       λ w. subst (λ (x : List Held). Covers i.names x) (sym c.set_life.ensures) (covers_relived i.names i.objects c.args.place c.args.life (c.self.invariant.1 w)),
       lasts_led i.features i.objects c.set_life.new.self c.args.place c.args.life c.self.invariant.2 c.set_life.ensures,
+      sought_led i.sought i.objects c.set_life.new.self c.args.place c.args.life c.set_life.ensures c.self.invariant.3,
     )
 
 pub returns : goal.returns
