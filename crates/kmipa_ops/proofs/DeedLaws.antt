@@ -5,7 +5,7 @@ use Rattle.kmipa_store.specs.Ledger.{Meaning, bytes_at, cards_of}
 use Rattle.kmipa_store.specs.Choices.{Choice, Chooses, inv, IsSound}
 use Rattle.kmipa_msgs.specs.Messages.{RulesOf, PayloadOf}
 use Rattle.kmipa_ops.specs.declared.why.Why.{Why}
-use Rattle.kmipa_ops.specs.declared.why.Why.TheVariants.{EarlierCallLate, StampRunsBack, BatchShape, OperationDiffers}
+use Rattle.kmipa_ops.specs.declared.why.Why.TheVariants.{EarlierCallLate, StampRunsBack, BatchShape, OperationDiffers, NotVisible}
 use Rattle.kmipa_ops.specs.Effects.{brought_by}
 use Rattle.kmipa_ops.specs.Judging.{Judging, RowJudging}
 use Rattle.kmipa_ops.specs.Row.{Deed, Row, deed, idle, unknown}
@@ -21,7 +21,7 @@ use Rattle.kmipa_ops.specs.Sayable.{ShowsSayable}
 
 -- the reasons that are no operation's own: the order of calls, the shape of a batch, the Operation
 abbrev pub outer_whys : List Why
-outer_whys = EarlierCallLate ∷ StampRunsBack ∷ BatchShape ∷ OperationDiffers ∷ []
+outer_whys = NotVisible ∷ EarlierCallLate ∷ StampRunsBack ∷ BatchShape ∷ OperationDiffers ∷ []
 
 -- bytes are known afterwards only where they were, or where the ask brought them or the answer showed them
 abbrev pub Learns : Meaning → Meaning → Option (List ℕ) → Option (List ℕ) → Type 0

@@ -29,3 +29,4 @@ mod OneInventoryLemmas
 pub mod AlikeLemmas
 mod ListingLemmas
 mod CandidateLemmas
+pub mod AheadLemmas

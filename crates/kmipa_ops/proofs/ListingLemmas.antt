@@ -72,7 +72,7 @@ five_true false b c d e h = cc
 -- ELEMENTS OF LISTS
 
 module _ {X : Type 0} (p : X → Bool) where
-  any_at : (xs : List X) (i : ℕ) (x : X) → slice_get xs i ≡ Some x → p x ≡ true → list_any p xs ≡ true
+  pub any_at : (xs : List X) (i : ℕ) (x : X) → slice_get xs i ≡ Some x → p x ≡ true → list_any p xs ≡ true
   any_at [] i x e h = cc
   any_at (y ∷ ys) zero x e h = let same : x ≡ y = cc in ap (λ (b : Bool). b || list_any p ys) (ap p (sym same) ∙ h)
   any_at (y ∷ ys) (suc i) x e h = or_right (p y) (list_any p ys) (any_at ys i x e h)
@@ -327,7 +327,7 @@ dropped [] (suc from) p x h at = let bad : ⊥ = cc in absurd bad
 dropped (y ∷ ys) (suc from) zero x h at = absurd (omega arith)
 dropped (y ∷ ys) (suc from) (suc p) x h at = let r = dropped ys from p x (omega arith) at in let e : from + r.0 ≡ p = r.1 in (r.0, omega arith, r.2)
 
-no_stranger : (q : FilterOf) (s : State) (c : Card) → has_stranger c.given.names q.names ≡ true → must_fit q s c ≡ false
+pub no_stranger : (q : FilterOf) (s : State) (c : Card) → has_stranger c.given.names q.names ≡ true → must_fit q s c ≡ false
 no_stranger q s c e =
     let says : says_no q s c ≡ true = five_true (has_stranger c.given.names q.names) _ _ _ _ e in
     ap (λ (b : Bool). not b && not (is_doubtful q c)) says

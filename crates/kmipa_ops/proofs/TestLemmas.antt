@@ -1,11 +1,11 @@
 -- Tests of fields that may be absent, and the lowest of the reasons that hold.
-use Rattle.std.proofs.Common.{◌≡◌, ◌-◌, slice_get, ◌||◌, ◌⊎◌, Bool, true, false, not, List, find, is_none, is_some, Option, Some, None, refl, ap, sym, ◌∙◌, inl, inr}
+use Rattle.std.proofs.Common.{◌≡◌, ℕ, slice_get, ◌||◌, ◌⊎◌, Bool, true, false, not, List, find, is_none, is_some, Option, Some, None, refl, ap, sym, ◌∙◌, inl, inr}
 use Rattle.std.specs.Bool.{Decides}
 use Rattle.std.specs.List.{Contains, list_any}
 use Rattle.std.proofs.lemmas.List.Folds.{Any-from_list_any, list_any_at}
 use Rattle.std.proofs.lemmas.Bool.{or_parts}
 use Rattle.kmipa_ops.specs.declared.why.Why.{Why}
-use Rattle.kmipa_ops.specs.declared.why.Why.TheVariants.{EarlierCallLate, StampRunsBack, BatchShape, OperationDiffers, NoSuchObject, WrongState, IdentifierTaken, NameTaken, BytesDiffer, LengthImpossible, AttributeDiffers, AttributeMissing, ListedWrongly, ListedTooFew, ReasonUnfounded, EchoDiffers}
+use Rattle.kmipa_ops.specs.declared.why.Why.TheVariants.{EarlierCallLate, StampRunsBack, BatchShape, OperationDiffers, NoSuchObject, WrongState, IdentifierTaken, NameTaken, BytesDiffer, LengthImpossible, AttributeDiffers, AttributeMissing, ListedWrongly, ListedTooFew, ReasonUnfounded, EchoDiffers, NotVisible}
 use Rattle.kmipa_ops.specs.Whys.{whys, why_number}
 use Rattle.kmipa_ops.proofs.FirstLemmas.{find-none}
 use Rattle.kmipa_ops.specs.Objects.{Echoes, Agree, is_other, clash}
@@ -102,8 +102,12 @@ module _ {X : Type 0} (p : X → Bool) (P : X → Type 0) (decides : (x : X) →
   pub some_not : (xs : List X) (x : X) → Contains xs x → P x → list_any p xs ≡ true
   some_not xs x at y = list_any_at p xs at.0 x at.1 (ap p at.2 ∙ (decides x).1 y)
 
--- each reason stands in the list
-all_whys : (w : Why) → slice_get whys (why_number w - 1) ≡ Some w
+-- where each reason stands in the list
+abbrev place_of_why : Why → ℕ
+place_of_why NotVisible = 0
+place_of_why w = why_number w
+
+all_whys : (w : Why) → slice_get whys (place_of_why w) ≡ Some w
 all_whys =
     elim [
       | EarlierCallLate ↦ refl
@@ -122,11 +126,12 @@ all_whys =
       | ListedTooFew ↦ refl
       | ReasonUnfounded ↦ refl
       | EchoDiffers ↦ refl
+      | NotVisible ↦ refl
     ]
 
 -- where none is found none does
 pub none_holds : (p : Why → Bool) → find p whys ≡ None → (w : Why) → p w ≡ false
-none_holds p e w = find-none p whys (why_number w - 1) w e (all_whys w)
+none_holds p e w = find-none p whys (place_of_why w) w e (all_whys w)
 
 -- two tests that each follow from the other
 pub same_truth : (a b : Bool) → (a ≡ true → b ≡ true) → (b ≡ true → a ≡ true) → a ≡ b

@@ -7,6 +7,7 @@ use Rattle.kmipa_attrs.specs.Sets.{NameOf}
 use Rattle.kmipa_object.specs.Inventory.{Card, place_of}
 use Rattle.kmipa_object.specs.Life.{state}
 use Rattle.kmipa_store.specs.Ledger.{Held}
+use Rattle.kmipa_store.specs.Queries.{AllLack, Lasting, Leaps}
 use Rattle.kmipa_ops.specs.GetAttributes.{has_stranger}
 use Rattle.kmipa_ops.specs.Objects.{card_meant}
 use Rattle.kmipa_ops.specs.declared.fit.Fit.{Fit}
@@ -50,6 +51,11 @@ NoneMust objects t q from to = (p : ℕ) (h : Held) → from ≤ p → p < to �
 abbrev pub NextCandidate : List Held → ℤ → FilterOf → ℕ → Option ℕ → Type 0
 NextCandidate objects t q from None = (to : ℕ) → NoneMust objects t q from to
 NextCandidate objects t q from (Some p) = (from ≤ p) × NoneMust objects t q from p
+
+-- the next place of an object that may have all that lasts of what is asked for
+abbrev pub NextHaving : List Held → Lasting → ℕ → Option ℕ → Type 0
+NextHaving objects asked from None = (to : ℕ) → AllLack asked objects from to
+NextHaving objects asked from (Some p) = Leaps asked objects from p
 
 -- of the objects before a place each that must be listed is at one of these places
 abbrev pub CoveredTo : List Held → ℤ → FilterOf → PlacesListed → ℕ → Type 0

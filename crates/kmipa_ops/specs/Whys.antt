@@ -1,12 +1,12 @@
 -- The reasons why an answer is impossible: their order, their numbers and their names (profile).
 use Rattle.std.specs.Prelude.{ℕ, List, [], ◌∷◌, codes}
 use Rattle.kmipa_ops.specs.declared.why.Why.{Why}
-use Rattle.kmipa_ops.specs.declared.why.Why.TheVariants.{EarlierCallLate, StampRunsBack, BatchShape, OperationDiffers, NoSuchObject, WrongState, IdentifierTaken, NameTaken, BytesDiffer, LengthImpossible, AttributeDiffers, AttributeMissing, ListedWrongly, ListedTooFew, ReasonUnfounded, EchoDiffers}
+use Rattle.kmipa_ops.specs.declared.why.Why.TheVariants.{EarlierCallLate, StampRunsBack, BatchShape, OperationDiffers, NoSuchObject, WrongState, IdentifierTaken, NameTaken, BytesDiffer, LengthImpossible, AttributeDiffers, AttributeMissing, ListedWrongly, ListedTooFew, ReasonUnfounded, EchoDiffers, NotVisible}
 
--- all of them, the lowest first
+-- The lowest first; but NotVisible, the highest, stands ahead of all: no item has it by itself, since who sees which object is judged apart.
 abbrev pub whys : List Why
 whys =
-    EarlierCallLate ∷ StampRunsBack ∷ BatchShape ∷ OperationDiffers ∷ NoSuchObject ∷ WrongState ∷ IdentifierTaken ∷ NameTaken ∷ BytesDiffer
+    NotVisible ∷ EarlierCallLate ∷ StampRunsBack ∷ BatchShape ∷ OperationDiffers ∷ NoSuchObject ∷ WrongState ∷ IdentifierTaken ∷ NameTaken ∷ BytesDiffer
     ∷ LengthImpossible ∷ AttributeDiffers ∷ AttributeMissing ∷ ListedWrongly ∷ ListedTooFew ∷ ReasonUnfounded ∷ EchoDiffers ∷ []
 
 abbrev pub why_number : Why → ℕ
@@ -26,6 +26,7 @@ why_number ListedWrongly = 13
 why_number ListedTooFew = 14
 why_number ReasonUnfounded = 15
 why_number EchoDiffers = 16
+why_number NotVisible = 17
 
 abbrev pub why_name : Why → List ℕ
 why_name EarlierCallLate = codes "EarlierCallLate"
@@ -44,3 +45,4 @@ why_name ListedWrongly = codes "ListedWrongly"
 why_name ListedTooFew = codes "ListedTooFew"
 why_name ReasonUnfounded = codes "ReasonUnfounded"
 why_name EchoDiffers = codes "EchoDiffers"
+why_name NotVisible = codes "NotVisible"

@@ -35,13 +35,15 @@ pub enum Why {
     ReasonUnfounded = 15,
     /// A field that repeats one of the request, or the identifier, isn't the one expected.
     EchoDiffers = 16,
+    /// A hidden object is told of, or something is done with it, where the server has to hide it.
+    NotVisible = 17,
 }
 
 impl Why {
     ghost use Rattle.std.specs.Prelude.{◌≡◌};
     ghost use Rattle.kmipa_ops.specs.Whys.{why_name, why_number};
 
-    /// The number, from 1 to 16.
+    /// The number, from 1 to 17.
     pub fn number(self) -> u8
         ensures { result ≡ why_number self }
     {
@@ -69,6 +71,7 @@ impl Why {
             Why::ListedTooFew => "ListedTooFew",
             Why::ReasonUnfounded => "ReasonUnfounded",
             Why::EchoDiffers => "EchoDiffers",
+            Why::NotVisible => "NotVisible",
         }
     }
 }

@@ -2,6 +2,7 @@
 use Rattle.std.proofs.Common.{◌≡◌, None, Some, subst, sym, rules}
 use Rattle.kmipa_attrs.specs.Filters.{filter_of}
 use Rattle.kmipa_ops.specs.Listing.{NextCandidate}
+use Rattle.kmipa_ops.proofs.AheadLemmas.{having_candidate}
 use Rattle.kmipa_ops.proofs.CandidateLemmas.{candidate_on}
 use Rattle.kmipa_ops.proofs.listing.next_candidate.Goals as goal
 
@@ -14,26 +15,15 @@ returns-in_err-stated-clause-next g c =
     let e : c.from_residual-in_err-stated.result ≡ None = search rules in
     subst (NextCandidate hs t q from) (sym e) (candidate_on hs t q from c.in_ok-bearer.bearer None c.in_ok-bearer.ensures.next c.in_err-stated.ensures.next)
 
-pub returns-in_err-typed-clause-next : goal.returns-in_err-typed-clause-next
-returns-in_err-typed-clause-next g c =
+pub returns-in_err-featured-clause-next : goal.returns-in_err-featured-clause-next
+returns-in_err-featured-clause-next g c =
     let hs = (g.L.Ledger.state c.args.ledger.now).now.objects in
     let t = g.L.Ledger.moment c.args.ledger.now in
     let q = filter_of c.args.filter.now in
     let from = c.args.from in
     let two = candidate_on hs t q from c.in_ok-bearer.bearer (Some c.in_ok-stated.stated) c.in_ok-bearer.ensures.next c.in_ok-stated.ensures.next in
-    let e : c.from_residual-in_err-typed.result ≡ None = search rules in
-    subst (NextCandidate hs t q from) (sym e) (candidate_on hs t q from c.in_ok-stated.stated None two c.in_err-typed.ensures.next)
-
-pub returns-in_err-coded-clause-next : goal.returns-in_err-coded-clause-next
-returns-in_err-coded-clause-next g c =
-    let hs = (g.L.Ledger.state c.args.ledger.now).now.objects in
-    let t = g.L.Ledger.moment c.args.ledger.now in
-    let q = filter_of c.args.filter.now in
-    let from = c.args.from in
-    let two = candidate_on hs t q from c.in_ok-bearer.bearer (Some c.in_ok-stated.stated) c.in_ok-bearer.ensures.next c.in_ok-stated.ensures.next in
-    let three = candidate_on hs t q from c.in_ok-stated.stated (Some c.in_ok-typed.typed) two c.in_ok-typed.ensures.next in
-    let e : c.from_residual-in_err-coded.result ≡ None = search rules in
-    subst (NextCandidate hs t q from) (sym e) (candidate_on hs t q from c.in_ok-typed.typed None three c.in_err-coded.ensures.next)
+    let e : c.from_residual-in_err-featured.result ≡ None = search rules in
+    subst (NextCandidate hs t q from) (sym e) (candidate_on hs t q from c.in_ok-stated.stated None two (having_candidate hs t q c.in_ok-stated.stated None c.in_err-featured.ensures.next))
 
 pub returns-clause-next : goal.returns-clause-next
 returns-clause-next g c =
@@ -42,6 +32,5 @@ returns-clause-next g c =
     let q = filter_of c.args.filter.now in
     let from = c.args.from in
     let two = candidate_on hs t q from c.in_ok-bearer.bearer (Some c.in_ok-stated.stated) c.in_ok-bearer.ensures.next c.in_ok-stated.ensures.next in
-    let three = candidate_on hs t q from c.in_ok-stated.stated (Some c.in_ok-typed.typed) two c.in_ok-typed.ensures.next in
-    let four = candidate_on hs t q from c.in_ok-typed.typed (Some c.in_ok-coded.coded) three c.in_ok-coded.ensures.next in
-    candidate_on hs t q from c.in_ok-coded.coded c.next_of_length.result four c.next_of_length.ensures.next
+    let three = candidate_on hs t q from c.in_ok-stated.stated (Some c.in_ok-featured.featured) two (having_candidate hs t q c.in_ok-stated.stated (Some c.in_ok-featured.featured) c.in_ok-featured.ensures.next) in
+    candidate_on hs t q from c.in_ok-featured.featured c.next_ahead.result three c.next_ahead.ensures.next

@@ -1,8 +1,7 @@
--- crates/kmipa_ops/proofs/listing/next_of_algorithm/Answers.antt
 use Rattle.kmipa_attrs.specs.Filters.{filter_of}
+use Rattle.kmipa_store.specs.Queries.{has_feature, lasting}
 use Rattle.kmipa_store.specs.declared.feature.Feature.TheVariants.{Algorithm}
-use Rattle.kmipa_ops.proofs.CandidateLemmas.{candidate_with, wants_algorithm}
-use Rattle.kmipa_ops.proofs.ListingLemmas.{any_next}
+use Rattle.kmipa_ops.proofs.AheadLemmas.{any_having, having_by, lacks_algorithm}
 use Rattle.kmipa_ops.proofs.listing.next_of_algorithm.Goals as goal
 
 pub returns-in-Some-clause-next : goal.returns-in-Some-clause-next
@@ -11,8 +10,7 @@ returns-in-Some-clause-next g c =
     let t = g.L.Ledger.moment c.args.ledger.now in
     let q = filter_of c.args.filter.now in
     let n = c.in-Some.number in
-    candidate_with hs t q (Algorithm n) c.args.from c.next_with.result (wants_algorithm q t n c.in-Some.is) c.next_with.ensures.place
+    having_by hs (lasting q) (has_feature (Algorithm n) t) c.args.from c.next_with.result (λ h. lacks_algorithm q h n t c.in-Some.is) c.next_with.ensures.place
 
 pub returns-in-None-clause-next : goal.returns-in-None-clause-next
-returns-in-None-clause-next g c =
-    any_next (g.L.Ledger.state c.args.ledger.now).now.objects (g.L.Ledger.moment c.args.ledger.now) (filter_of c.args.filter.now) c.args.from
+returns-in-None-clause-next g c = any_having (g.L.Ledger.state c.args.ledger.now).now.objects (lasting (filter_of c.args.filter.now)) c.args.from

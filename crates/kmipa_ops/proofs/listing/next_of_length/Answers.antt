@@ -1,13 +1,11 @@
--- crates/kmipa_ops/proofs/listing/next_of_length/Answers.antt
 use Rattle.std.proofs.Common.{◌∙◌, ℤ, ap, rules}
 use mir.Val.{SFits}
 use mir.Syntax.{w32}
 use Rattle.std.proofs.lemmas.Int.{to_z-of_z}
 use Rattle.kmipa_attrs.specs.Filters.{filter_of}
-use Rattle.kmipa_store.specs.Queries.{next_with}
+use Rattle.kmipa_store.specs.Queries.{has_feature, lasting, next_with}
 use Rattle.kmipa_store.specs.declared.feature.Feature.TheVariants.{Length}
-use Rattle.kmipa_ops.proofs.CandidateLemmas.{candidate_with, wants_length}
-use Rattle.kmipa_ops.proofs.ListingLemmas.{any_next}
+use Rattle.kmipa_ops.proofs.AheadLemmas.{any_having, having_by, lacks_length}
 use Rattle.kmipa_ops.proofs.listing.next_of_length.Goals as goal
 
 pub returns-in-Some-clause-next : goal.returns-in-Some-clause-next
@@ -17,8 +15,8 @@ returns-in-Some-clause-next g c =
     let q = filter_of c.args.filter.now in
     let n = c.in-Some.bits in
     let fits : SFits w32 n = search rules in
-    candidate_with hs t q (Length n) c.args.from c.next_with.result (wants_length q t n c.in-Some.is) (c.next_with.ensures.place ∙ ap (λ (x : ℤ). next_with (Length x) t c.args.from hs) (to_z-of_z w32 n fits))
+    having_by hs (lasting q) (has_feature (Length n) t) c.args.from c.next_with.result (λ h. lacks_length q h n t c.in-Some.is)
+    (c.next_with.ensures.place ∙ ap (λ (x : ℤ). next_with (Length x) t c.args.from hs) (to_z-of_z w32 n fits))
 
 pub returns-in-None-clause-next : goal.returns-in-None-clause-next
-returns-in-None-clause-next g c =
-    any_next (g.L.Ledger.state c.args.ledger.now).now.objects (g.L.Ledger.moment c.args.ledger.now) (filter_of c.args.filter.now) c.args.from
+returns-in-None-clause-next g c = any_having (g.L.Ledger.state c.args.ledger.now).now.objects (lasting (filter_of c.args.filter.now)) c.args.from
