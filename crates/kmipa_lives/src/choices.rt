@@ -87,7 +87,8 @@ pub(crate) fn add_choices(
     Ok(())
 }
 
-fn add_choice(
+/// Adds a choice among options, each with what open calls do by it.
+pub(crate) fn add_choice(
     alloc: Global,
     choices: &mut Vec<Choice>,
     options: Vec<Vec<Wish>>,

@@ -58,8 +58,11 @@ pub struct Guise<'b> {
     pub given: &'b AttrSet,
 }
 
-/// The identifier of an object that nothing shows.
-const UNSEEN: &str = "open-unseen";
+/// The longest identifier of an object that nothing shows: each has so much of it from the front on.
+const UNSEEN: &str = "open-unseen................................................................";
+
+/// The shortest of them.
+const LEAST_UNSEEN: usize = 11;
 
 /// The objects that the calls and the declaration speak of, and the items about them.
 #[derive(Drop)]
@@ -70,6 +73,8 @@ pub struct Items<'b> {
     pub looks: Vec<Look<'b>>,
     /// Those of the objects that nothing brings but open calls, object by object.
     pub guises: Vec<Guise<'b>>,
+    /// So many objects, the first ones, are declared.
+    pub declared: usize,
     /// So many objects are spoken of. Those behind them nothing shows.
     pub known: usize,
 }
@@ -113,9 +118,11 @@ impl<'b> Items<'b> {
             touches: Vec::new(alloc),
             looks: Vec::new(alloc),
             guises: Vec::new(alloc),
+            declared: 0,
             known: 0,
         };
         items.take_entries(declaration)?;
+        items.declared = items.objects.len();
         for (place, call) in calls.iter().enumerate() {
             items.take_call(place, call)?;
         }
@@ -131,6 +138,11 @@ impl<'b> Items<'b> {
     /// The number of an object that calls speak of.
     pub(crate) fn find(&self, id: &'b str) -> Option<usize> {
         self.numbers.get(&id).copied()
+    }
+
+    /// The call that destroys an object, if one is known.
+    pub(crate) fn gone(&self, object: usize) -> Option<usize> {
+        self.objects.get(object)?.gone
     }
 
     fn take_entries(&mut self, declaration: &'b Declaration) -> Result<(), AllocError> {
@@ -157,7 +169,11 @@ impl<'b> Items<'b> {
     /// The number of an object that nothing shows.
     pub(crate) fn add_unseen(&mut self) -> Result<usize, AllocError> {
         let number = self.objects.len();
-        self.objects.push(Known::of(UNSEEN))?;
+        let most = number
+            .saturating_sub(self.known)
+            .saturating_add(LEAST_UNSEEN);
+        self.objects
+            .push(Known::of(UNSEEN.get(..most).unwrap_or(UNSEEN)))?;
         Ok(number)
     }
 
@@ -388,7 +404,7 @@ fn aim_of<'b, 'a>(asked: &'b Asked<'a>) -> Aim<'b> {
 }
 
 /// The identifier of the object that an answer brings.
-fn brought<'b, 'a>(payload: &'b Option<Payload<'a>>) -> Option<&'b str> {
+pub(crate) fn brought<'b, 'a>(payload: &'b Option<Payload<'a>>) -> Option<&'b str> {
     match payload {
         Some(Payload::Create(created)) => Some(created.id),
         Some(Payload::Register(registered)) => Some(registered.id),

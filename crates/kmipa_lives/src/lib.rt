@@ -15,6 +15,7 @@ mod lives;
 mod looks;
 mod matching;
 mod mending;
+mod names;
 mod openings;
 mod proposing;
 mod shown;

@@ -17,12 +17,16 @@ const MOST_MAKERS: usize = 24;
 /// So many of them are looked at.
 const LOOKED_AT: usize = 256;
 
-/// Notes what open calls may have done to the objects that ended calls speak of.
+/// So many objects that nothing shows are taken for the sake of names.
+const MOST_UNSEEN: usize = 64;
+
+/// Notes what open calls may have done to the objects that ended calls speak of, and makers of objects of these names, which ascend.
 pub(crate) fn add_openings<'b, 'a>(
     alloc: Global,
     items: &mut Items<'b>,
     calls: &'b [Call<'a>],
     times: &[Time],
+    wanted: &[(&'b str, u32)],
 ) -> Result<(), AllocError> {
     for (place, call) in calls.iter().enumerate() {
         if call.end.is_none() {
@@ -33,7 +37,7 @@ pub(crate) fn add_openings<'b, 'a>(
     add_makers(alloc, items, calls, &makers)?;
     items.known = items.objects.len();
     for maker in &makers {
-        add_unseen(items, calls, *maker)?;
+        add_unseen(items, calls, *maker, wanted)?;
     }
     Ok(())
 }
@@ -249,21 +253,39 @@ fn add_maker<'b, 'a>(
     Ok(())
 }
 
-/// Notes that a maker may have brought an object that nothing shows, where that may be for the sake of other items.
+/// Notes that a maker may have brought an object that nothing shows, where that may be for the sake of other items, or of a name.
 fn add_unseen<'b, 'a>(
     items: &mut Items<'b>,
     calls: &'b [Call<'a>],
     maker: Maker,
+    wanted: &[(&'b str, u32)],
 ) -> Result<(), AllocError> {
     let Some(call) = calls.get(maker.call) else {
         return Ok(());
     };
-    if !is_bound(call) || !has_other_deed(call, maker.item) {
+    let is_hoped = is_bound(call) && has_other_deed(call, maker.item);
+    let count = items.objects.len().saturating_sub(items.known);
+    if !is_hoped && (count >= MOST_UNSEEN || !is_wanted(call, maker.item, wanted)) {
         return Ok(());
     }
     let object = items.add_unseen()?;
     add_guise(items, calls, maker, object)?;
     add_maker(items, calls, maker, object)
+}
+
+/// Whether an item gives what it makes one of these names, which ascend.
+fn is_wanted(call: &Call<'_>, item: usize, wanted: &[(&str, u32)]) -> bool {
+    let Some(ask) = call.request.items.get(item) else {
+        return false;
+    };
+    let Some((_, given)) = made_by(ask) else {
+        return false;
+    };
+    given.names.as_slice().iter().any(|name| {
+        let own = (name.value.as_str(), name.kind);
+        let place = wanted.partition_point(|other| *other < own);
+        wanted.get(place).copied() == Some(own)
+    })
 }
 
 /// Whether another item of a call may make an object, or change one that it names.

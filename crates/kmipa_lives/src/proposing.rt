@@ -8,6 +8,7 @@ use crate::items::{Items, Known, Touch};
 use crate::lives::{Course, lives_of};
 use crate::looks::leave_out;
 use crate::mending::Mending;
+use crate::names::Names;
 use crate::sorting::graph_of;
 use crate::stories::{Recording, Story};
 use crate::switches::Switches;
@@ -35,30 +36,42 @@ pub fn propose<'x, 'a, L: Ledger>(
     requires { IsSound (L.state ledger.old).now }
     ensures { IfOk result (λ order. IfSome order (λ o. All (λ place. place < length calls.now) o.items)) }
 {
-    let Some(times) = times_of(alloc, calls)? else {
+    let Some(mut times) = times_of(alloc, calls)? else {
         return Ok(None);
     };
     let mut items = Items::of(alloc, calls, declaration)?;
+    let mut switches = Switches::none(alloc);
+    let mut names = Names::of(alloc, calls, &items, &rules, &mut times, false)?;
+    names.close(alloc, calls, &items, &mut times, &mut switches)?;
     let recording = Recording {
         calls,
         times,
-        rules,
-        switches: Switches::none(alloc),
+        rules: by_object(rules),
+        switches,
         is_open: false,
         least: i64::MIN,
     };
-    match mending_of(alloc, ledger, &recording, &mut items)? {
+    match mending_of(alloc, ledger, &recording, &mut items, &names)? {
         Some(mending) => Ok(Some(calls_among(alloc, &mending.graph.order, recording.calls.len())?)),
         None => Ok(None),
     }
 }
 
+/// The rules as one object alone is judged by: no name is taken.
+pub(crate) fn by_object(rules: Rules) -> Rules {
+    Rules {
+        unique_names: false,
+        ..rules
+    }
+}
+
 /// The graph of a recording, with the choices that the lives of its objects leave, all taken; none where they can't be.
-pub(crate) fn mending_of<L: Ledger>(
+pub(crate) fn mending_of<'x, 'a, L: Ledger>(
     alloc: Global,
     ledger: &mut L,
-    recording: &Recording<'_, '_>,
-    items: &mut Items<'_>,
+    recording: &Recording<'x, 'a>,
+    items: &mut Items<'x>,
+    names: &Names<'x>,
 ) -> Result<Option<Mending>, AllocError>
     requires { IsSound (L.state ledger.old).now }
 {
@@ -66,10 +79,14 @@ pub(crate) fn mending_of<L: Ledger>(
         return Ok(None);
     }
     items.touches.sort_unstable();
-    match choices_of(alloc, ledger, recording, &items.objects, &items.touches)? {
-        Some(choices) => settled(alloc, recording, choices),
-        None => Ok(None),
+    let Some(mut choices) = choices_of(alloc, ledger, recording, &items.objects, &items.touches)?
+    else {
+        return Ok(None);
+    };
+    if !names.add_choices(alloc, recording, &mut choices)? {
+        return Ok(None);
     }
+    settled(alloc, recording, choices)
 }
 
 /// The choices that the lives of all objects leave; none where an object has no life, or too many.

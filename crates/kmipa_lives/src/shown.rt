@@ -51,6 +51,11 @@ impl Dates {
         }
     }
 
+    /// Whether this is one of both.
+    pub(crate) fn has(self, date: i64) -> bool {
+        self.one == Some(date) || self.other == Some(date)
+    }
+
     /// The first one that isn't this.
     pub(crate) fn besides(self, own: Option<i64>) -> Option<i64> {
         if self.one == own {

@@ -166,6 +166,42 @@ impl<'s> Story<'s> {
         self.given
     }
 
+    /// The open call and its item by which a chain makes the object; or the greatest number and that of the object.
+    pub(crate) fn brought_along(
+        &self,
+        recording: &Recording<'_, '_>,
+        chain: &[usize],
+    ) -> (usize, usize) {
+        for number in chain {
+            if let Some(group) = self.groups.get(*number) {
+                if let Some(first) = self.touches.get(group.from) {
+                    if group.is_open && is_maker(recording, self.touches, group.from) {
+                        return (first.call, first.item);
+                    }
+                }
+            }
+        }
+        match self.touches.first() {
+            Some(touch) => (usize::MAX, touch.object),
+            None => (usize::MAX, usize::MAX),
+        }
+    }
+
+    /// The call of a chain that destroys the object.
+    pub(crate) fn gone_along(
+        &self,
+        recording: &Recording<'_, '_>,
+        chain: &[usize],
+    ) -> Option<usize> {
+        for number in chain {
+            let items = self.items(*number);
+            if items.iter().any(|touch| is_end(recording, *touch)) {
+                return Some(items.first()?.call);
+            }
+        }
+        None
+    }
+
     /// The place of the first Activate or Revoke of a chain.
     pub(crate) fn first_handling(
         &self,
@@ -393,7 +429,7 @@ fn is_deactivating(recording: &Recording<'_, '_>, touch: Touch) -> bool {
 }
 
 /// Whether a Revocation Reason Code is one of the compromises.
-fn is_compromise(code: u32) -> bool {
+pub(crate) fn is_compromise(code: u32) -> bool {
     code == 2 || code == 3
 }
 
@@ -413,6 +449,14 @@ fn given_by(recording: &Recording<'_, '_>, touch: Touch) -> Option<Given> {
     match made_by(ask) {
         Some((_, given)) => Some(Given::of(given)),
         None => None,
+    }
+}
+
+/// Whether an item destroys the object, if it is done.
+fn is_end(recording: &Recording<'_, '_>, touch: Touch) -> bool {
+    match asked_by(recording, touch) {
+        Some(asked) => is_destroy(asked) && may_change(recording, touch),
+        None => false,
     }
 }
 

@@ -39,6 +39,14 @@ struct Gate {
     high: usize,
 }
 
+/// The node from which on an object isn't live that has a name: of one that an open call may have brought by that and its item, of another by the
+/// greatest number and its own.
+#[derive(Clone, Copy, PartialEq, Eq, PartialOrd, Ord)]
+pub(crate) struct Ending {
+    pub by: (usize, usize),
+    pub node: usize,
+}
+
 /// The nodes that stand for what open calls do.
 #[derive(Drop)]
 pub struct Switches {
@@ -47,6 +55,10 @@ pub struct Switches {
     gates: Vec<Gate>,
     /// The objects from this number on nothing shows.
     unseen: usize,
+    /// The ends of objects, where their lives say when these are.
+    pub endings: Vec<Ending>,
+    /// The node behind all calls, where there is one.
+    pub last: usize,
     /// The edges that they have in any case.
     pub edges: Vec<Wish>,
 }
@@ -59,6 +71,8 @@ impl Switches {
             claims: Vec::new(alloc),
             gates: Vec::new(alloc),
             unseen: usize::MAX,
+            endings: Vec::new(alloc),
+            last: 0,
             edges: Vec::new(alloc),
         }
     }
@@ -88,7 +102,7 @@ impl Switches {
             switches.add_fence(times, *date)?;
         }
         for (place, call) in calls.iter().enumerate() {
-            if call.end.is_none() && is_bound(call) {
+            if call.end.is_none() && (is_bound(call) || switches.may_be_unseen(place)) {
                 switches.add_gates(times, place, call)?;
                 switches.close_gates(items, place, call)?;
             }
@@ -152,6 +166,20 @@ impl Switches {
                 to: before.high,
             })?;
         }
+        Ok(())
+    }
+
+    /// Whether an open call may have brought an object that nothing shows.
+    fn may_be_unseen(&self, place: usize) -> bool {
+        let from = self.claims.partition_point(|claim| claim.call < place);
+        let to = self.claims.partition_point(|claim| claim.call <= place);
+        let own = self.claims.get(from..to).unwrap_or(&[]);
+        own.iter().any(|claim| claim.object >= self.unseen)
+    }
+
+    /// Adds an edge that goes in any case.
+    pub(crate) fn add_edge(&mut self, from: usize, to: usize) -> Result<(), AllocError> {
+        self.edges.push(Wish { from, to })?;
         Ok(())
     }
 
@@ -253,6 +281,60 @@ impl Switches {
             } else {
                 self.wish_unclaimed(*touch, wishes)?;
             }
+        }
+        self.wish_end(recording, story, chain, wishes)
+    }
+
+    /// Wishes the nodes of an object's end behind what destroys it, or behind all where nothing does.
+    fn wish_end(
+        &self,
+        recording: &Recording<'_, '_>,
+        story: &Story<'_>,
+        chain: &[usize],
+        wishes: &mut Vec<Wish>,
+    ) -> Result<(), AllocError> {
+        let by = story.brought_along(recording, chain);
+        let from = self.endings.partition_point(|ending| ending.by < by);
+        let to = self.endings.partition_point(|ending| ending.by <= by);
+        let gone = story.gone_along(recording, chain).unwrap_or(self.last);
+        for ending in self.endings.get(from..to).unwrap_or(&[]) {
+            wishes.push(Wish {
+                from: gone,
+                to: ending.node,
+            })?;
+        }
+        Ok(())
+    }
+
+    /// Adds for each object that an item may have brought the option that it did, with a wish besides; and what it does, where nothing else shows
+    /// the object.
+    pub(crate) fn add_claimed(
+        &self,
+        alloc: Global,
+        by: (usize, usize),
+        wish: Wish,
+        options: &mut Vec<Vec<Wish>>,
+        done: &mut Vec<Vec<Done>>,
+    ) -> Result<(), AllocError> {
+        let (call, item) = by;
+        let from = self.claims.partition_point(|c| (c.call, c.item) < by);
+        let to = self.claims.partition_point(|c| (c.call, c.item) <= by);
+        for claim in self.claims.get(from..to).unwrap_or(&[]) {
+            let touch = Touch {
+                object: claim.object,
+                call,
+                item,
+                part: Part::Means,
+            };
+            let mut wishes = Vec::new(alloc);
+            wishes.push(wish)?;
+            self.wish_claim(touch, &mut wishes)?;
+            options.push(wishes)?;
+            let mut deeds = Vec::new(alloc);
+            if self.is_unseen(claim.object) {
+                deeds.push(Done::of(touch, None, None))?;
+            }
+            done.push(deeds)?;
         }
         Ok(())
     }
@@ -471,7 +553,11 @@ fn push_given(given: &AttrSet, dates: &mut Vec<i64>) -> Result<(), AllocError> {
 }
 
 /// A node that is no call, at these Time Stamps; and answers its number.
-fn new_node(times: &mut Vec<Time>, stamp: i64, latest: i64) -> Result<usize, AllocError> {
+pub(crate) fn new_node(
+    times: &mut Vec<Time>,
+    stamp: i64,
+    latest: i64,
+) -> Result<usize, AllocError> {
     let node = times.len();
     times.push(Time {
         begin: 0,

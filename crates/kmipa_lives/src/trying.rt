@@ -8,12 +8,13 @@ use crate::hidden::is_hidden;
 use crate::items::{Part, Touch};
 use crate::openings::{is_changer, made_by};
 use crate::shown::Given;
-use crate::stories::{Recording, Story, is_destroy};
+use crate::stories::{Recording, Story, is_compromise, is_destroy};
 use crate::times::time_at;
 use kmipa_batch::is_unordered;
-use kmipa_msgs::{Answer, Ask, Asked, Rules, Status};
+use kmipa_msgs::{Answer, Ask, Asked, Payload, Rules, Status};
 use kmipa_object::Life;
 use kmipa_ops::{Fit, Placeholder, Refusal, is_readable, matches, take};
+use kmipa_record::Call;
 use kmipa_store::Ledger;
 use std::alloc::{AllocError, Global};
 
@@ -154,7 +155,7 @@ fn is_without_order(recording: &Recording<'_, '_>, touches: &[Touch]) -> bool {
     }
 }
 
-/// Takes the items of a batch without order: over and over, those that are possible.
+/// Takes the items of a batch without order: over and over, those that are possible and leave the object be, and then the first other.
 fn take_in_any_order<L: Ledger>(
     alloc: Global,
     ledger: &mut L,
@@ -166,10 +167,10 @@ fn take_in_any_order<L: Ledger>(
     ensures marks { (L.state ledger.new).marks ≡ (L.state ledger.old).marks }
     ensures sound { OnOk result (IsSound (L.state ledger.new).now) }
 {
-    let mut left = Vec::from_slice(alloc, touches)?;
+    let mut left = ranked(alloc, recording, story, touches)?;
     'rounds: for _ in 0..touches.len() {
         let count = left.len();
-        left = take_possible(alloc, ledger, recording, story, &left)?;
+        left = take_round(alloc, ledger, recording, story, &left)?;
         if left.is_empty() || left.len() == count {
             break;
         }
@@ -177,25 +178,141 @@ fn take_in_any_order<L: Ledger>(
     Ok(left.is_empty())
 }
 
-/// Takes those of these items that are possible, one after the other, and answers the others.
+/// Takes those of these items that are possible and leave the object as it is, then the first other that is possible; and answers those that are left.
+fn take_round<L: Ledger>(
+    alloc: Global,
+    ledger: &mut L,
+    recording: &Recording<'_, '_>,
+    story: &Story<'_>,
+    touches: &[(u8, Touch)],
+) -> Result<Vec<(u8, Touch)>, AllocError>
+    requires { IsSound (L.state ledger.old).now }
+    ensures marks { (L.state ledger.new).marks ≡ (L.state ledger.old).marks }
+    ensures sound { OnOk result (IsSound (L.state ledger.new).now) }
+{
+    let left = take_possible(alloc, ledger, recording, story, touches, true)?;
+    take_possible(alloc, ledger, recording, story, &left, false)
+}
+
+/// Takes those of these items that are possible and leave the object as it is, or else the first other; and answers those that are left.
 fn take_possible<L: Ledger>(
     alloc: Global,
     ledger: &mut L,
     recording: &Recording<'_, '_>,
     story: &Story<'_>,
-    touches: &[Touch],
-) -> Result<Vec<Touch>, AllocError>
+    touches: &[(u8, Touch)],
+    is_idle: bool,
+) -> Result<Vec<(u8, Touch)>, AllocError>
     requires { IsSound (L.state ledger.old).now }
     ensures marks { (L.state ledger.new).marks ≡ (L.state ledger.old).marks }
     ensures sound { OnOk result (IsSound (L.state ledger.new).now) }
 {
     let mut left = Vec::new(alloc);
+    let mut is_over = false;
     'touches: for touch in touches {
-        if !take_touch(alloc, ledger, recording, story, *touch)? {
+        if is_over || !take_ranked(alloc, ledger, recording, story, *touch, is_idle)? {
             left.push(*touch)?;
+            continue;
         }
+        is_over = !is_idle;
     }
     Ok(left)
+}
+
+/// Takes an item if it is of those that leave the object as it is, or of the others, and is possible.
+fn take_ranked<L: Ledger>(
+    alloc: Global,
+    ledger: &mut L,
+    recording: &Recording<'_, '_>,
+    story: &Story<'_>,
+    ranked: (u8, Touch),
+    is_idle: bool,
+) -> Result<bool, AllocError>
+    requires { IsSound (L.state ledger.old).now }
+    ensures marks { (L.state ledger.new).marks ≡ (L.state ledger.old).marks }
+    ensures sound { OnOk result (IsSound (L.state ledger.new).now) }
+{
+    let (rank, touch) = ranked;
+    if (rank == IDLE) != is_idle {
+        return Ok(false);
+    }
+    take_touch(alloc, ledger, recording, story, touch)
+}
+
+/// The rank of an item that leaves the object as it is.
+const IDLE: u8 = 0;
+
+/// These items by their ranks.
+fn ranked(
+    alloc: Global,
+    recording: &Recording<'_, '_>,
+    story: &Story<'_>,
+    touches: &[Touch],
+) -> Result<Vec<(u8, Touch)>, AllocError> {
+    let is_late = touches
+        .iter()
+        .any(|touch| is_destroyed_first(recording, story, *touch));
+    let mut ranked = Vec::with_capacity(alloc, touches.len())?;
+    for touch in touches {
+        ranked.push((rank_of(recording, *touch, is_late), *touch))?;
+    }
+    ranked.sort_unstable();
+    Ok(ranked)
+}
+
+/// State Destroyed (KMIP 2.1, section 11).
+const DESTROYED: u32 = 5;
+
+/// Whether an item shows that the object was destroyed before it was compromised: it is Destroyed, or the Destroy has deactivated it.
+fn is_destroyed_first(recording: &Recording<'_, '_>, story: &Story<'_>, touch: Touch) -> bool {
+    let Some(call) = recording.calls.get(touch.call) else {
+        return false;
+    };
+    let (Some(ask), Some(response)) = (call.request.items.get(touch.item), &call.response) else {
+        return false;
+    };
+    let Some(answer) = response.items.get(touch.item) else {
+        return false;
+    };
+    match &answer.payload {
+        Some(Payload::GetAttributes(got)) => got.attributes.state == Some(DESTROYED),
+        _ => is_destroy(&ask.asked) && story.shown.deactivation.has(response.stamp),
+    }
+}
+
+/// When an item comes in a batch without order: what changes an object comes in the order of a life. A Destroy comes behind what compromises the
+/// object, or ahead of it where this `is_late`.
+fn rank_of(recording: &Recording<'_, '_>, touch: Touch, is_late: bool) -> u8 {
+    let Some(call) = recording.calls.get(touch.call) else {
+        return IDLE;
+    };
+    let Some(ask) = call.request.items.get(touch.item) else {
+        return IDLE;
+    };
+    if touch.part != Part::Means || is_failed(call, touch.item) {
+        return IDLE;
+    }
+    match &ask.asked {
+        Asked::Create(_) => 1,
+        Asked::Register(_) => 1,
+        Asked::Activate(_) => 2,
+        Asked::Revoke(revoke) if is_compromise(revoke.code) && is_late => 6,
+        Asked::Revoke(revoke) if is_compromise(revoke.code) => 4,
+        Asked::Revoke(_) => 3,
+        Asked::Destroy(_) => 5,
+        _ => IDLE,
+    }
+}
+
+/// Whether an answer says that the item at a place failed.
+fn is_failed(call: &Call<'_>, item: usize) -> bool {
+    let Some(response) = &call.response else {
+        return false;
+    };
+    match response.items.get(item) {
+        Some(answer) => answer.status == Status::Failed,
+        None => false,
+    }
 }
 
 /// The same of one item.

@@ -5,8 +5,9 @@ ghost use Rattle.kmipa_store.specs.Choices.{IsSound};
 
 use crate::choices::Done;
 use crate::items::Items;
+use crate::names::Names;
 use crate::openings::add_openings;
-use crate::proposing::{calls_among, mending_of};
+use crate::proposing::{by_object, calls_among, mending_of};
 use crate::stories::Recording;
 use crate::switches::Switches;
 use crate::times::all_times_of;
@@ -51,19 +52,22 @@ pub fn propose_turns<'x, 'a, L: Ledger>(
 {
     let mut times = all_times_of(alloc, calls)?;
     let mut items = Items::of(alloc, calls, declaration)?;
+    let mut names = Names::of(alloc, calls, &items, &rules, &mut times, is_open)?;
     if is_open {
-        add_openings(alloc, &mut items, calls, &times)?;
+        let wanted = names.wanted(alloc, calls, &times)?;
+        add_openings(alloc, &mut items, calls, &times, &wanted)?;
     }
-    let switches = Switches::of(alloc, calls, &items, &mut times)?;
+    let mut switches = Switches::of(alloc, calls, &items, &mut times)?;
+    names.close(alloc, calls, &items, &mut times, &mut switches)?;
     let recording = Recording {
         calls,
         times,
-        rules,
+        rules: by_object(rules),
         switches,
         is_open,
         least: least_stamp(calls),
     };
-    let Some(mending) = mending_of(alloc, ledger, &recording, &mut items)? else {
+    let Some(mending) = mending_of(alloc, ledger, &recording, &mut items, &names)? else {
         return Ok(None);
     };
     let order = calls_among(alloc, &mending.graph.order, calls.len())?;
