@@ -23,8 +23,10 @@ use Rattle.kmipa_check.specs.Runs.{Linked, rules_declared, Before, IsPlaced, Tak
 use Rattle.kmipa_check.specs.Grants.{grants_declared}
 use Rattle.kmipa_check.specs.Orders.{IsOrder}
 use Rattle.kmipa_check.specs.Verdicts.{IsLate, RunsBack, IsPlacedAt, ArePlaced, ArePossible, AreKnown, RefusedItem, late, runs_back, RefusedAt, in_place, in_item, IsRefused, GoesUpTo}
+use Rattle.kmipa_check.specs.declared.fault.CheckFault.{CheckFault}
+use Rattle.kmipa_check.specs.declared.fault.CheckFault.TheVariants.{Outside, Witness, Memory}
 use Rattle.kmipa_check.specs.declared.verdict.Refused.{Refused}
-use Rattle.kmipa_check.specs.Replays.{Replayed}
+use Rattle.kmipa_check.specs.Replays.{Replayed, TellsRun, TurnTold}
 use Rattle.kmipa_check.proofs.PlaceLemmas.{below_suc}
 use Rattle.kmipa_check.proofs.RunLemmas.{take_next, taken_is_known_lem}
 
@@ -112,6 +114,12 @@ module _ (declared : DeclarationOf) (order : List StepOf) (n : ℕ) (m : Meaning
         let E : Meaning → Type 0 = λ x. CallRefutedAlong (rules_declared declared) x c.request c.response (order_of c) item why in
         let p = refused_item declared order n c m r (record { there = there; kept = kept; stamped = stamped }) item why (subst E same t.0) in
         refused item why v reported number at is (in_item p.0 p.1)
+
+-- a turn that breaks off breaks off the replay
+pub told_fault : (declared : DeclarationOf) (order : List StepOf) (turn : ℕ) (m : Meaning) (fault : CheckFault) → TurnTold declared order turn (Err fault) m → TellsRun declared order (Err fault)
+told_fault declared order turn m Memory h = tt
+told_fault declared order turn m (Outside number side o) h = h
+told_fault declared order turn m (Witness f) h = h
 
 -- past the last turn all are replayed
 pub replayed_all : (declared : DeclarationOf) (order : List StepOf) (turn : ℕ) (m : Meaning) → length order ≤ turn → Replayed declared order turn m → Replayed declared order (length order) m

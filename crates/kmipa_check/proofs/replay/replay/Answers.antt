@@ -3,8 +3,13 @@ use Rattle.std.proofs.lemmas.List.{length-map}
 use Rattle.kmipa_check.specs.Steps.{step_of}
 use Rattle.kmipa_check.specs.Replays.{TurnTold}
 use Rattle.kmipa_check.specs.declared.verdict.Refused.{Refused}
-use Rattle.kmipa_check.proofs.ReplayLemmas.{replayed_all}
+use Rattle.kmipa_check.proofs.ReplayLemmas.{replayed_all, told_fault}
 use Rattle.kmipa_check.proofs.replay.replay.Goals as goal
+
+pub returns-in-Err-clause-told : goal.returns-in-Err-clause-told
+returns-in-Err-clause-told g c = λ declared is r.
+    told_fault declared (map step_of c.args.steps.now) c.turns.turn (g.L.Ledger.state c.take_turn.new.ledger).now c.in-Err.fault
+    (c.in-Err.ensures.taken declared is (c.turns.invariant.replayed declared is r))
 
 pub returns-in-Ok-Some-clause-told : goal.returns-in-Ok-Some-clause-told
 returns-in-Ok-Some-clause-told g c = λ declared is r.
