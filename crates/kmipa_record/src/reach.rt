@@ -1,7 +1,7 @@
 //! How far files are read and written.
 
 ghost use Rattle.std.specs.Prelude.{◌↔◌, IsTrue};
-ghost use Rattle.kmipa_record.specs.Reaches.{ReachesAsides, ReachesSettings};
+ghost use Rattle.kmipa_record.specs.Reaches.{HasSight, ReachesAsides, ReachesSettings};
 
 use crate::settings::Settings;
 use kmipa_msgs::{Unjudged, Visibility};
@@ -24,10 +24,7 @@ impl Reach {
     {
         match self {
             Reach::Whole => true,
-            Reach::Aside => match settings.visibility {
-                Visibility::Everyone => true,
-                Visibility::MayHide | Visibility::MustHide => false,
-            },
+            Reach::Aside => has_sight(settings),
             Reach::Judged => match (settings.unjudged, settings.visibility) {
                 (Unjudged::Refused | Unjudged::SetAside, Visibility::Everyone) => true,
                 _ => false,
@@ -44,5 +41,17 @@ impl Reach {
             (Reach::Aside | Reach::Whole, Unjudged::Refused) => false,
             (Reach::Aside | Reach::Whole, Unjudged::SetAside | Unjudged::Unknown) => true,
         }
+    }
+}
+
+/// Whether clients see every object; or what isn't judged doesn't end the audit, and a server may hide the objects of other clients, or has to.
+fn has_sight(settings: &Settings) -> bool
+    ensures { IsTrue result ↔ HasSight settings.now }
+{
+    match (settings.visibility, settings.unjudged) {
+        (Visibility::Everyone, _) => true,
+        (Visibility::MayHide | Visibility::MustHide, Unjudged::SetAside | Unjudged::Unknown) =>
+            true,
+        (Visibility::MayHide | Visibility::MustHide, Unjudged::Refused) => false,
     }
 }
