@@ -1,14 +1,21 @@
-mod NearLemmas
+mod BlameLemmas
 mod BodyLemmas
-mod ScanLemmas
-mod NamesLemmas
-mod SettingLemmas
-mod LawLemmas
-mod TakenLemmas
-mod PlainLemmas
-mod RepeatLemmas
-mod ListingLemmas
-mod WithoutLemmas
-mod RebornLemmas
 mod EverLemmas
+mod InSightLemmas
+mod LawLemmas
+mod ListingLemmas
+mod MissedLemmas
+mod NamesLemmas
+mod NearLemmas
+mod PermittedLemmas
 mod PlaceLemmas
+mod PlainLemmas
+mod RebornLemmas
+mod RepeatLemmas
+mod SeenLemmas
+mod SeenNamesLemmas
+mod SightLemmas
+mod TakenLemmas
+mod WithoutLemmas
+pub mod ScanLemmas
+pub mod SettingLemmas

@@ -239,6 +239,12 @@ module _ (rules : RulesOf) (t : ℤ) (ask : AskOf) (answer : AnswerOf) (s : Ledg
   twice : has_repeat (listed_in answer.payload) ≡ true → Refutes D s.now before
   twice e = record { never = λ c h v y d. let bad : true ≡ false = sym e ∙ d.once in cc }
 
+  pub listing_never : (w : Why) → listing_lowest rules s.now before t ask answer ≡ Some w → Refutes D s.now before
+  listing_never w e = elim (repeats answer) as (λ b. repeats answer ≡ b → Refutes D s.now before) [
+    | true ↦ λ r. twice r
+    | false ↦ λ r. never w (why.rest ∙ sym (ap (λ (b : Bool). first_why (other ask answer || false) (b || why.bad) why.few why.echo) r) ∙ sym why.whole ∙ e)
+  ] refl
+
   pub listing_other : (u : LedgerState) → other ask answer ≡ true → u ≡ s
       → TakenListing rules s before t ask answer (Err (Impossible OperationDiffers)) u
   listing_other u e same =

@@ -33,7 +33,7 @@ use Rattle.kmipa_aside.proofs.NearLemmas.{stand_world}
 module _ (does other : Deed) (tells told : List ℕ → Type 0) (s : LedgerState) (before : HeldOf)
     (to : (c : Choice) (w : WorldOf) (h : HeldOf) → does (world c s.now) before w h → other (world c s.now) before w h)
     (back : (c : Choice) (w : WorldOf) (h : HeldOf) → other (world c s.now) before w h → does (world c s.now) before w h) where
-  took_as : ((bytes : List ℕ) → tells bytes → told bytes) → (u : LedgerState) (after : HeldOf) → Took does tells s before u after → Took other told s before u after
+  pub took_as : ((bytes : List ℕ) → tells bytes → told bytes) → (u : LedgerState) (after : HeldOf) → Took does tells s before u after → Took other told s before u after
   took_as tell u after x = record {
     explains = record {
       sound = λ c h. let r = x.explains.sound c h in (r.0, to c (world c u.now) after r.1);
@@ -47,7 +47,7 @@ module _ (does other : Deed) (tells told : List ℕ → Type 0) (s : LedgerState
     marks = x.marks;
   }
 
-  refutes_as : Refutes does s.now before → Refutes other s.now before
+  pub refutes_as : Refutes does s.now before → Refutes other s.now before
   refutes_as x = record { never = λ c h w y d. x.never c h w y (back c w y d) }
 
 not_true : (b : Bool) → not b ≡ true → b ≡ false
@@ -91,7 +91,7 @@ module _ (rules : RulesOf) (t : ℤ) (ask : AskOf) (answer : AnswerOf) (s : Ledg
   grave_in c b e = ap (λ (x : StandOf). is_some (grave x ask answer)) (stand_world c s.now) ∙ e
 
   -- one of the four alone is possible
-  only_excused : is_ever in_ledger ≡ false → (c : Choice) (w : WorldOf) (h : HeldOf) → DoesJudged rules t ask answer (world c s.now) before w h
+  pub only_excused : is_ever in_ledger ≡ false → (c : Choice) (w : WorldOf) (h : HeldOf) → DoesJudged rules t ask answer (world c s.now) before w h
       → DoesExcused rules t ask answer (world c s.now) before w h
   only_excused not_ever c w h (excused d) = d
   only_excused not_ever c w h (plain d) =
@@ -101,7 +101,7 @@ module _ (rules : RulesOf) (t : ℤ) (ask : AskOf) (answer : AnswerOf) (s : Ledg
   only_excused not_ever c w h (reborn d) =
       clash (is_ever (stand (world c s.now))) (and_parts (is_ever (stand (world c s.now))) (is_some (grave (stand (world c s.now)) ask answer)) d.reborn).0 (ever_in c false not_ever)
 
-  only_listing : is_ever in_ledger ≡ true → is_touched in_ledger ask answer ≡ true → (c : Choice) (w : WorldOf) (h : HeldOf) → DoesJudged rules t ask answer (world c s.now) before w h
+  pub only_listing : is_ever in_ledger ≡ true → is_touched in_ledger ask answer ≡ true → (c : Choice) (w : WorldOf) (h : HeldOf) → DoesJudged rules t ask answer (world c s.now) before w h
       → DoesListing rules t ask answer (world c s.now) before w h
   only_listing ever lists c w h (excused d) = clash (is_ever (stand (world c s.now))) (ever_in c true ever) d.free
   only_listing ever lists c w h (plain d) = clash (is_touched (stand (world c s.now)) ask answer) (touched_in c true lists) (plain_parts (stand (world c s.now)) d.plain).1
@@ -110,7 +110,7 @@ module _ (rules : RulesOf) (t : ℤ) (ask : AskOf) (answer : AnswerOf) (s : Ledg
       let x : StandOf = stand (world c s.now) in
       clash (is_some (grave x ask answer)) (and_parts (is_ever x) (is_some (grave x ask answer)) d.reborn).1 (no_grave x (touched_in c true lists))
 
-  only_reborn : is_ever in_ledger ≡ true → is_some (grave in_ledger ask answer) ≡ true → (c : Choice) (w : WorldOf) (h : HeldOf) → DoesJudged rules t ask answer (world c s.now) before w h
+  pub only_reborn : is_ever in_ledger ≡ true → is_some (grave in_ledger ask answer) ≡ true → (c : Choice) (w : WorldOf) (h : HeldOf) → DoesJudged rules t ask answer (world c s.now) before w h
       → DoesReborn rules t ask answer (world c s.now) before w h
   only_reborn ever dug c w h (excused d) = clash (is_ever (stand (world c s.now))) (ever_in c true ever) d.free
   only_reborn ever dug c w h (plain d) = clash (is_some (grave (stand (world c s.now)) ask answer)) (grave_in c true dug) (plain_parts (stand (world c s.now)) d.plain).2
@@ -119,7 +119,7 @@ module _ (rules : RulesOf) (t : ℤ) (ask : AskOf) (answer : AnswerOf) (s : Ledg
       clash (is_some (grave x ask answer)) (grave_in c true dug) (no_grave x (and_parts (is_ever x) (is_touched x ask answer) d.listing).1)
   only_reborn ever dug c w h (reborn d) = d
 
-  only_plain : is_plain rules in_ledger before ask answer ≡ true → (c : Choice) (w : WorldOf) (h : HeldOf) → DoesJudged rules t ask answer (world c s.now) before w h
+  pub only_plain : is_plain rules in_ledger before ask answer ≡ true → (c : Choice) (w : WorldOf) (h : HeldOf) → DoesJudged rules t ask answer (world c s.now) before w h
       → DoesPlain rules t ask answer (world c s.now) before w h
   only_plain is c w h (excused d) = clash (is_ever (stand (world c s.now))) (ever_in c true (plain_parts in_ledger is).0) d.free
   only_plain is c w h (plain d) = d
@@ -208,14 +208,14 @@ module _ (rules : RulesOf) (t : ℤ) (ask : AskOf) (answer : AnswerOf) (s : Ledg
   not_also : (b : Bool) → is_ever in_ledger ≡ true → (is_ever in_ledger && b) ≡ false → b ≡ false
   not_also b ever e = ap (λ (x : Bool). x && b) (sym ever) ∙ e
 
-  plain_is : case rules in_ledger before ask answer ≡ AsEver → is_listing rules in_ledger before ask answer ≡ false → is_reborn rules in_ledger before ask answer ≡ false
+  pub plain_is : case rules in_ledger before ask answer ≡ AsEver → is_listing rules in_ledger before ask answer ≡ false → is_reborn rules in_ledger before ask answer ≡ false
       → is_plain rules in_ledger before ask answer ≡ true
   plain_is as_ever e f =
       let ever : is_ever in_ledger ≡ true = ap is_as_ever as_ever in
       let dug : Bool = is_some (grave in_ledger ask answer) in
       ap (λ (b : Bool). b && not (lists_here || dug)) ever ∙ ap (λ (b : Bool). not (b || dug)) (not_also lists_here ever e) ∙ ap not (not_also dug ever f)
 
-  none_dug : (o : Option ℕ) → is_some o ≡ false → lowest_beside rules s.now before t ask answer o ≡ lowest rules s.now (judged_by before answer) t ask answer
+  pub none_dug : (o : Option ℕ) → is_some o ≡ false → lowest_beside rules s.now before t ask answer o ≡ lowest rules s.now (judged_by before answer) t ask answer
   none_dug None e = refl
   none_dug (Some place) e = let bad : ⊥ = cc in absurd bad
 

@@ -74,7 +74,7 @@ module _ (ids : List (List ℕ)) (place i : ℕ) (k : List ℕ) (set : BTreeSet 
 
 -- ---- those that aren't set aside
 
-append_nil : (xs : List (List ℕ)) → xs ++ [] ≡ xs
+pub append_nil : (xs : List (List ℕ)) → xs ++ [] ≡ xs
 append_nil [] = refl
 append_nil (x ∷ xs) = ap (λ (ys : List (List ℕ)). x ∷ ys) (append_nil xs)
 

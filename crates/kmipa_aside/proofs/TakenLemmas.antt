@@ -24,23 +24,23 @@ use Rattle.kmipa_aside.specs.declared.case.Case.{Case}
 use Rattle.kmipa_aside.proofs.NearLemmas.{stand_world}
 
 module _ {A : Type 0} (same : A → A → Bool) (decides : (x y : A) → Decides (same x y) (x ≡ y)) where
-  echoes_if : (o : Option A) (x : A) → is_other same o x ≡ false → Echoes o x
+  pub echoes_if : (o : Option A) (x : A) → is_other same o x ≡ false → Echoes o x
   echoes_if None x h = tt
   echoes_if (Some y) x h = elim (same y x) as (λ b. same y x ≡ b → y ≡ x) [ true ↦ λ e. (decides y x).0 e | false ↦ λ e. let f : not (same y x) ≡ true = ap not e in cc ] refl
 
-  echoes_not : (o : Option A) (x : A) → is_other same o x ≡ true → Echoes o x → ⊥
+  pub echoes_not : (o : Option A) (x : A) → is_other same o x ≡ true → Echoes o x → ⊥
   echoes_not None x h e = cc
   echoes_not (Some y) x h e = let f : not (same y x) ≡ false = ap not ((decides y x).1 e) in cc
 
-  agree_if : (a b : Option A) → clash same a b ≡ false → Agree a b
+  pub agree_if : (a b : Option A) → clash same a b ≡ false → Agree a b
   agree_if None b h = tt
   agree_if (Some x) b h = echoes_if b x h
 
-  agree_not : (a b : Option A) → clash same a b ≡ true → Agree a b → ⊥
+  pub agree_not : (a b : Option A) → clash same a b ≡ true → Agree a b → ⊥
   agree_not None b h e = cc
   agree_not (Some x) b h e = echoes_not b x h e
 
-abbrev eq : ℕ → ℕ → Bool
+abbrev pub eq : ℕ → ℕ → Bool
 eq x y = x == y
 
 -- a deed that makes one world of each, and one placeholder, and tells no bytes
@@ -84,20 +84,20 @@ took_unread t left s u (Err e) sound b = b
 
 -- ---- a judged item that is excused
 
-two_none : (a b : Bool) (x y : Why) → cond a (Some x) (cond b (Some y) None) ≡ None → (a ≡ false) × (b ≡ false)
+pub two_none : (a b : Bool) (x y : Why) → cond a (Some x) (cond b (Some y) None) ≡ None → (a ≡ false) × (b ≡ false)
 two_none true b x y e = let bad : ⊥ = cc in absurd bad
 two_none false true x y e = let bad : ⊥ = cc in absurd bad
 two_none false false x y e = (refl, refl)
 
-two_some : (a b : Bool) (x y z : Why) → cond a (Some x) (cond b (Some y) None) ≡ Some z → (a ≡ true) ⊎ (b ≡ true)
+pub two_some : (a b : Bool) (x y z : Why) → cond a (Some x) (cond b (Some y) None) ≡ Some z → (a ≡ true) ⊎ (b ≡ true)
 two_some true b x y z e = inl refl
 two_some false true x y z e = inr refl
 two_some false false x y z e = let bad : ⊥ = cc in absurd bad
 
-abbrev other_operation : AskOf → AnswerOf → Bool
+abbrev pub other_operation : AskOf → AnswerOf → Bool
 other_operation ask answer = is_other eq answer.operation (operation_number (operation_asked ask.asked))
 
-abbrev other_item : AskOf → AnswerOf → Bool
+abbrev pub other_item : AskOf → AnswerOf → Bool
 other_item ask answer = clash bytes_eq answer.batch_id ask.batch_id
 
 module _ (rules : RulesOf) (t : ℤ) (ask : AskOf) (answer : AnswerOf) where

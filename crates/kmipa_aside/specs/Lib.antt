@@ -14,4 +14,9 @@ pub mod Becoming
 pub mod Listing
 pub mod Taking
 pub mod Places
+pub mod Sights
+pub mod Missed
+pub mod Seen
+pub mod Permitted
+pub mod InSight
 pub mod Identifiers

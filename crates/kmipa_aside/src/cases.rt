@@ -72,7 +72,7 @@ fn may_be_taken<L: Ledger>(ledger: &L, rules: &Rules, ask: &Ask, answer: &Answer
         && says_taken(rules, answer.reason)
 }
 
-fn is_failed(status: Status) -> bool
+pub(crate) fn is_failed(status: Status) -> bool
     ensures { result ≡ is_failed status }
 {
     match status {
@@ -92,7 +92,7 @@ fn is_for_names(asked: &Asked) -> bool
 }
 
 /// Whether a row says of a reason that a name is taken.
-fn says_taken(rules: &Rules, reason: Option<u32>) -> bool
+pub(crate) fn says_taken(rules: &Rules, reason: Option<u32>) -> bool
     ensures { result ≡ says_taken (rules_of rules.now).rows reason }
 {
     match reason {
@@ -108,7 +108,7 @@ fn any_taken(rows: &[Row], reason: u32) -> bool
         .any(|row| row.reason == reason && is_taken_name(row.cause))
 }
 
-fn is_taken_name(cause: Cause) -> bool
+pub(crate) fn is_taken_name(cause: Cause) -> bool
     ensures { result ≡ is_taken_name cause }
 {
     match cause {

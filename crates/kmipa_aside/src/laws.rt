@@ -1,6 +1,7 @@
 //! What the definitions say together.
 
 ghost use Rattle.kmipa_aside.specs.Places.{PlacesWithoutAsides};
+ghost use Rattle.kmipa_aside.specs.InSight.{SeenWithoutHidden};
 ghost use Rattle.kmipa_aside.specs.Identifiers.{AsEverWithoutAsides, IdentifiersAreSetAside, PlainWithoutAsides};
 
 /// An identifier that is set aside is so, and what is judged of others stays. Where all are set aside, or judging is over, every identifier is.
@@ -21,4 +22,9 @@ pub fn plain_without_asides()
 /// So does a judged place of a call.
 pub fn places_without_asides()
     ensures { PlacesWithoutAsides }
+{}
+
+/// Where nothing is hidden, a judged place does exactly what it does without that layer.
+pub fn seen_without_hidden()
+    ensures { SeenWithoutHidden }
 {}

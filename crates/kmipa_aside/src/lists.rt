@@ -129,7 +129,11 @@ fn beside<'p, L: Ledger>(
 }
 
 /// The filter, of which so many may be listed.
-fn with_maximum(alloc: Global, filter: &Filter, maximum: Option<i32>) -> Result<Filter, AllocError>
+pub(crate) fn with_maximum(
+    alloc: Global,
+    filter: &Filter,
+    maximum: Option<i32>,
+) -> Result<Filter, AllocError>
     ensures { IfOk result (λ f. filter_of f ≡ record (filter_of filter.now) { maximum = maximum }) }
 {
     Ok(Filter {

@@ -21,7 +21,8 @@ pub(crate) fn is_name_taken<L: Ledger>(ledger: &L, rules: &Rules, names: &[Name]
     rules.unique_names && any_live_named(ledger, names)
 }
 
-fn any_live_named<L: Ledger>(ledger: &L, names: &[Name]) -> bool
+/// Whether a live object has one of these names.
+pub(crate) fn any_live_named<L: Ledger>(ledger: &L, names: &[Name]) -> bool
     ensures { result ≡ any_live_named (cards_of (L.state ledger.now).now.objects) (map name_of names.now) }
 {
     any_live_had(ledger, names)
