@@ -23,7 +23,7 @@ use Rattle.kmipa_batch.proofs.OrderLemmas.{along_next, along_take, along_by_plac
 use Rattle.kmipa_places.specs.Calls.{ReadOf}
 use Rattle.kmipa_places.specs.Places.{PlaceOf}
 use Rattle.kmipa_bundle.specs.Shapes.{IsShapedBelow, IsShaped, IsFirstUnshaped, is_unordered, request_as, response_as}
-use Rattle.kmipa_bundle.specs.Bundles.{DoesPlace, IsWhole, MayTake, places_taken}
+use Rattle.kmipa_bundle.specs.Bundles.{DoesPlace, IsWhole, MayTake, places_taken, sight_on}
 use Rattle.kmipa_bundle.specs.Refusals.SpeaksAt.{in_shape, in_item}
 use Rattle.kmipa_bundle.specs.Refusals.{AreShapedFor, CallRefuted, IsPossibleUpTo, TellsPlace}
 use Rattle.kmipa_bundle.specs.Composing.{CanBeDone}
@@ -32,84 +32,85 @@ use Rattle.kmipa_bundle.specs.declared.counts.Counts.{Counts}
 use Rattle.kmipa_bundle.specs.declared.progress.Progress.{Progress}
 use Rattle.kmipa_bundle.specs.Running.{AlongTaken, GoesThere, Led, Ran, TakenPlace, TakenThere, TakesCount, ThereRefuted}
 use Rattle.kmipa_aside.specs.Becoming.{stand_in}
+use Rattle.kmipa_aside.specs.Sights.{SightOf}
 use Rattle.kmipa_bundle.proofs.CountLemmas.{counted_there_more, counts_more}
 use Rattle.kmipa_bundle.proofs.ChainLemmas.{explains_none, explains_one, explains_more, taken_can, refuted_cannot}
 
 -- where there is no place nothing is done
-pub there_none : (rules : RulesOf) (s : LedgerState) (before : HeldOf) (t : ℤ) (o : Option PlaceOf) (after : Held) → o ≡ None → held_of after ≡ before → IsSound s.now → TakenThere rules s before t o (Ok after) s
-there_none rules s before t o after is same sound =
-    let P : Option PlaceOf → Type 0 = λ x. TakenThere rules s before t x (Ok after) s in
-    let Q : HeldOf → Type 0 = λ h. Led rules t s.now before [] s.now h in
-    subst P (sym is) (subst Q (sym same) (explains_none (DoesPlace rules t) TellsPlace s.now before), sound, refl)
+pub there_none : (sight : SightOf) (s : LedgerState) (before : HeldOf) (t : ℤ) (o : Option PlaceOf) (after : Held) → o ≡ None → held_of after ≡ before → IsSound s.now → TakenThere sight s before t o (Ok after) s
+there_none sight s before t o after is same sound =
+    let P : Option PlaceOf → Type 0 = λ x. TakenThere sight s before t x (Ok after) s in
+    let Q : HeldOf → Type 0 = λ h. Led sight t s.now before [] s.now h in
+    subst P (sym is) (subst Q (sym same) (explains_none (DoesPlace sight t) TellsPlace s.now before), sound, refl)
 
 -- and else what that one comes to
-taken_there : (rules : RulesOf) (s : LedgerState) (before : HeldOf) (t : ℤ) (place : PlaceOf) (result : Result Held Refusal) (u : LedgerState)
-    → TakenPlace rules s before t place result u → TakenThere rules s before t (Some place) result u
-taken_there rules s before t place (Ok after) u r = (explains_one (DoesPlace rules t) TellsPlace place s.now before u.now (held_of after) r.explains, r.sound, r.marks)
-taken_there rules s before t place (Err (item.Impossible why)) u r = (record { place = place; there = refl; refuted = r.0 }, ap (λ (x : LedgerState). x.marks) r.1)
-taken_there rules s before t place (Err item.Memory) u r = r
+taken_there : (sight : SightOf) (s : LedgerState) (before : HeldOf) (t : ℤ) (place : PlaceOf) (result : Result Held Refusal) (u : LedgerState)
+    → TakenPlace sight s before t place result u → TakenThere sight s before t (Some place) result u
+taken_there sight s before t place (Ok after) u r = (explains_one (DoesPlace sight t) TellsPlace place s.now before u.now (held_of after) r.explains, r.sound, r.marks)
+taken_there sight s before t place (Err (item.Impossible why)) u r = (record { place = place; there = refl; refuted = r.0 }, ap (λ (x : LedgerState). x.marks) r.1)
+taken_there sight s before t place (Err item.Memory) u r = r
 
-pub there_taken : (rules : RulesOf) (s : LedgerState) (before : HeldOf) (moment t : ℤ) (place : PlaceOf) (o : Option PlaceOf) → moment ≡ t → o ≡ Some place
-    → (result : Result Held Refusal) (u : LedgerState) → TakenPlace rules s before moment place result u → TakenThere rules s before t o result u
-there_taken rules s before moment t place o at is result u r =
-    let P : Option PlaceOf → Type 0 = λ x. TakenThere rules s before t x result u in
-    let Q : ℤ → Type 0 = λ x. TakenThere rules s before x (Some place) result u in
-    subst P (sym is) (subst Q at (taken_there rules s before moment place result u r))
+pub there_taken : (sight : SightOf) (s : LedgerState) (before : HeldOf) (moment t : ℤ) (place : PlaceOf) (o : Option PlaceOf) → moment ≡ t → o ≡ Some place
+    → (result : Result Held Refusal) (u : LedgerState) → TakenPlace sight s before moment place result u → TakenThere sight s before t o result u
+there_taken sight s before moment t place o at is result u r =
+    let P : Option PlaceOf → Type 0 = λ x. TakenThere sight s before t x result u in
+    let Q : ℤ → Type 0 = λ x. TakenThere sight s before x (Some place) result u in
+    subst P (sym is) (subst Q at (taken_there sight s before moment place result u r))
 
 -- as far as the places have come: those before a position of the order, from a ledger `s` to `u`
-pub record Along (rules : RulesOf) (t : ℤ) (s : LedgerState) (places : List PlaceOf) (order : List ℕ) (position : ℕ) (u : LedgerState) (held : HeldOf) (k : CountsOf) : Type 0 where
-  pub led : Led rules t s.now empty (along places (take position order)) u.now held
+pub record Along (sight : SightOf) (t : ℤ) (s : LedgerState) (places : List PlaceOf) (order : List ℕ) (position : ℕ) (u : LedgerState) (held : HeldOf) (k : CountsOf) : Type 0 where
+  pub led : Led sight t s.now empty (along places (take position order)) u.now held
   pub sound : IsSound u.now
   pub marks : u.marks ≡ s.marks
-  pub counted : Counted rules t s.now empty no_counts (along places (take position order)) u.now held k
+  pub counted : Counted sight t s.now empty no_counts (along places (take position order)) u.now held k
   pub few : total k ≤ position
 
 take_zero : {A : Type 0} (xs : List A) → take 0 xs ≡ []
 take_zero [] = refl
 take_zero (x ∷ xs) = refl
 
-module _ (rules : RulesOf) (t : ℤ) (s : LedgerState) (places : List PlaceOf) (order : List ℕ) where
-  pub along_none : (held : HeldOf) (k : CountsOf) → IsSound s.now → held ≡ empty → k ≡ no_counts → Along rules t s places order 0 s held k
+module _ (sight : SightOf) (t : ℤ) (s : LedgerState) (places : List PlaceOf) (order : List ℕ) where
+  pub along_none : (held : HeldOf) (k : CountsOf) → IsSound s.now → held ≡ empty → k ≡ no_counts → Along sight t s places order 0 s held k
   along_none held k sound is none =
-      let P : HeldOf → Type 0 = λ h. Along rules t s places order 0 s h k in
-      let K : CountsOf → Type 0 = λ n. Along rules t s places order 0 s empty n in
-      let Q : List ℕ → Type 0 = λ front. Led rules t s.now empty (along places front) s.now empty in
-      let R : List ℕ → Type 0 = λ front. Counted rules t s.now empty no_counts (along places front) s.now empty no_counts in
+      let P : HeldOf → Type 0 = λ h. Along sight t s places order 0 s h k in
+      let K : CountsOf → Type 0 = λ n. Along sight t s places order 0 s empty n in
+      let Q : List ℕ → Type 0 = λ front. Led sight t s.now empty (along places front) s.now empty in
+      let R : List ℕ → Type 0 = λ front. Counted sight t s.now empty no_counts (along places front) s.now empty no_counts in
       subst P (sym is) (subst K (sym none) (record {
-        led = subst Q (sym (take_zero order)) (explains_none (DoesPlace rules t) TellsPlace s.now empty);
+        led = subst Q (sym (take_zero order)) (explains_none (DoesPlace sight t) TellsPlace s.now empty);
         sound = sound;
         marks = refl;
         counted = subst R (sym (take_zero order)) (λ c h. (refl, refl, refl));
         few = omega arith;
       }))
 
-  module _ (position : ℕ) (u : LedgerState) (p : Progress) (l : Along rules t s places order position u (held_of p.held) (counts_of p.counts)) where
+  module _ (position : ℕ) (u : LedgerState) (p : Progress) (l : Along sight t s places order position u (held_of p.held) (counts_of p.counts)) where
     module _ (place : ℕ) (there : slice_get order position ≡ Some place) where
       -- the next place was taken, or there is none
-      pub along_more : (v : LedgerState) (q : Progress) → GoesThere rules u p t (slice_get places place) (Ok q) v
-          → Along rules t s places order (position + 1) v (held_of q.held) (counts_of q.counts)
+      pub along_more : (v : LedgerState) (q : Progress) → GoesThere sight u p t (slice_get places place) (Ok q) v
+          → Along sight t s places order (position + 1) v (held_of q.held) (counts_of q.counts)
       along_more v q took =
-          let P : List PlaceOf → Type 0 = λ xs. Led rules t s.now empty xs v.now (held_of q.held) in
-          let Q : List PlaceOf → Type 0 = λ xs. Counted rules t s.now empty no_counts xs v.now (held_of q.held) (counts_of q.counts) in
+          let P : List PlaceOf → Type 0 = λ xs. Led sight t s.now empty xs v.now (held_of q.held) in
+          let Q : List PlaceOf → Type 0 = λ xs. Counted sight t s.now empty no_counts xs v.now (held_of q.held) (counts_of q.counts) in
           let front : List PlaceOf = along places (take position order) in
           let next = along_next places order position place there in
-          let more = counted_there_more rules (stand_in u.now) (held_of p.held) (slice_get places place) (counts_of p.counts) in
+          let more = counted_there_more sight.rules (stand_in u.now) (held_of p.held) (slice_get places place) (counts_of p.counts) in
           let few = l.few in
-          let is : total (counts_of q.counts) ≡ total (counted_there rules (stand_in u.now) (held_of p.held) (slice_get places place) (counts_of p.counts)) = ap total took.1 in
+          let is : total (counts_of q.counts) ≡ total (counted_there sight.rules (stand_in u.now) (held_of p.held) (slice_get places place) (counts_of p.counts)) = ap total took.1 in
           record {
             led = subst P (sym next)
-                (explains_more (DoesPlace rules t) TellsPlace s.now empty front (one_of (slice_get places place)) u.now (held_of p.held) v.now (held_of q.held) l.led took.0.0);
+                (explains_more (DoesPlace sight t) TellsPlace s.now empty front (one_of (slice_get places place)) u.now (held_of p.held) v.now (held_of q.held) l.led took.0.0);
             sound = took.0.1;
             marks = took.0.2 ∙ l.marks;
             counted = subst Q (sym next)
-                (counts_more rules t s.now empty no_counts front u.now (held_of p.held) (counts_of p.counts) (slice_get places place) v.now (held_of q.held) (counts_of q.counts) l.counted
+                (counts_more sight t s.now empty no_counts front u.now (held_of p.held) (counts_of p.counts) (slice_get places place) v.now (held_of q.held) (counts_of q.counts) l.counted
                 took.0.0 took.1);
             few = omega (arith, more, few, is);
           }
 
       -- or it was refused
-      pub along_stops : (refusal : Refusal) (v : LedgerState) → GoesThere rules u p t (slice_get places place) (Err refusal) v
-          → AlongTaken rules t s places order (Err (refused_at place refusal)) v
+      pub along_stops : (refusal : Refusal) (v : LedgerState) → GoesThere sight u p t (slice_get places place) (Err refusal) v
+          → AlongTaken sight t s places order (Err (refused_at place refusal)) v
       along_stops (item.Impossible why) v r = (
         record {
           position = position;
@@ -127,10 +128,10 @@ module _ (rules : RulesOf) (t : ℤ) (s : LedgerState) (places : List PlaceOf) (
       along_stops item.Memory v r = (tt, r ∙ l.marks)
 
     -- after all places
-    pub along_ends : length order ≤ position → AlongTaken rules t s places order (Ok p.counts) u
+    pub along_ends : length order ≤ position → AlongTaken sight t s places order (Ok p.counts) u
     along_ends h =
-        let P : List ℕ → Type 0 = λ front. Led rules t s.now empty (along places front) u.now (held_of p.held) in
-        let Q : List ℕ → Type 0 = λ front. Counted rules t s.now empty no_counts (along places front) u.now (held_of p.held) (counts_of p.counts) in
+        let P : List ℕ → Type 0 = λ front. Led sight t s.now empty (along places front) u.now (held_of p.held) in
+        let Q : List ℕ → Type 0 = λ front. Counted sight t s.now empty no_counts (along places front) u.now (held_of p.held) (counts_of p.counts) in
         (record { held = held_of p.held; led = subst P (take_past order position h) l.led; sound = l.sound; counted = subst Q (take_past order position h) l.counted }, l.marks)
 
 -- shapes that are judged by the time that so many items are done
@@ -191,25 +192,25 @@ ordered_by_place c (Some order) may e = absurd (clash (sym e ∙ may.0))
 
 module _ (rules : RulesOf) (s : LedgerState) (c : ReadOf) (whole : IsWhole c) (unrefused : c.refused ≡ false) where
   -- what is possible of so many places
-  possible : (order : Option (List ℕ)) (count : ℕ) → AreShapedFor c count → CanBeDone (DoesPlace rules c.stamp) s.now empty (take count (places_taken c order))
+  possible : (order : Option (List ℕ)) (count : ℕ) → AreShapedFor c count → CanBeDone (DoesPlace (sight_on rules c) c.stamp) s.now empty (take count (places_taken c order))
       → IsPossibleUpTo rules s.now c order count
   possible order count shaped p = record { shaped = shaped; choice = p.choice; chooses = p.chooses; left = p.left; held = p.held; chain = p.chain }
 
   -- where those before it were taken, a place is refused
   place_refuted : (order : Option (List ℕ)) (places : List ℕ) (position place : ℕ) → Next c order places position place → AreShapedFor c (position + 1)
-      → (n : Meaning) (before : HeldOf) → Led rules c.stamp s.now empty (along c.places (take position places)) n before → IsSound n
-      → (why : Why) → ThereRefuted rules c.stamp n before (slice_get c.places place) why → CallRefuted rules s.now c order (place + 1) why
+      → (n : Meaning) (before : HeldOf) → Led (sight_on rules c) c.stamp s.now empty (along c.places (take position places)) n before → IsSound n
+      → (why : Why) → ThereRefuted (sight_on rules c) c.stamp n before (slice_get c.places place) why → CallRefuted rules s.now c order (place + 1) why
   place_refuted order places position place next shaped n before e sound why r =
       let front : List PlaceOf = take position (places_taken c order) in
-      let P : List PlaceOf → Type 0 = λ xs. Led rules c.stamp s.now empty xs n before in
-      let taken : Led rules c.stamp s.now empty front n before = subst P next.front e in
+      let P : List PlaceOf → Type 0 = λ xs. Led (sight_on rules c) c.stamp s.now empty xs n before in
+      let taken : Led (sight_on rules c) c.stamp s.now empty front n before = subst P next.front e in
       let last : take (position + 1) (places_taken c order) ≡ front ++ r.place ∷ [] = next.more ∙ ap (λ (o : Option PlaceOf). front ++ one_of o) r.there in
       record {
         count = position;
-        before = possible order position (shaped_fewer c position (position + 1) (omega arith) shaped) (taken_can (DoesPlace rules c.stamp) TellsPlace s.now empty front n before taken sound);
+        before = possible order position (shaped_fewer c position (position + 1) (omega arith) shaped) (taken_can (DoesPlace (sight_on rules c) c.stamp) TellsPlace s.now empty front n before taken sound);
         never = λ p.
-            let Q : List PlaceOf → Type 0 = λ xs. CanBeDone (DoesPlace rules c.stamp) s.now empty xs in
-            refuted_cannot (DoesPlace rules c.stamp) TellsPlace s.now empty front n before taken r.place r.refuted.refutes
+            let Q : List PlaceOf → Type 0 = λ xs. CanBeDone (DoesPlace (sight_on rules c) c.stamp) s.now empty xs in
+            refuted_cannot (DoesPlace (sight_on rules c) c.stamp) TellsPlace s.now empty front n before taken r.place r.refuted.refutes
             (subst Q last (record { choice = p.choice; chooses = p.chooses; left = p.left; held = p.held; chain = p.chain }));
         unrefused = unrefused;
         speaks = in_item place refl shaped next.at n before r.place taken sound r.there r.refuted;
@@ -217,7 +218,7 @@ module _ (rules : RulesOf) (s : LedgerState) (c : ReadOf) (whole : IsWhole c) (u
 
   -- a place was refused, where all shapes that are judged by then are right
   refused_in_order : (order : Option (List ℕ)) (count : ℕ) → MayTake c order → ((position : ℕ) → position < length (places_of order count) → AreShapedFor c (position + 1))
-      → (refusal : CallRefusal) (u : LedgerState) → AlongTaken rules c.stamp s c.places (places_of order count) (Err refusal) u → Ran rules s c order (Err refusal) u
+      → (refusal : CallRefusal) (u : LedgerState) → AlongTaken (sight_on rules c) c.stamp s c.places (places_of order count) (Err refusal) u → Ran rules s c order (Err refusal) u
   refused_in_order order count may shaped (Impossible item why) u a =
       let x = a.0 in
       let below : x.position < length (places_of order count) = slice_get_within (places_of order count) x.position x.place x.there in
@@ -231,11 +232,11 @@ module _ (rules : RulesOf) (s : LedgerState) (c : ReadOf) (whole : IsWhole c) (u
 
   -- where all places have their shape
   pub ran_shaped : (places : Option (List ℕ)) (count : ℕ) → TakesCount c places count → MayTake c (order_given places) → IsShaped c
-      → (result : Result Counts CallRefusal) (u : LedgerState) → AlongTaken rules c.stamp s c.places (places_of (order_given places) count) result u
+      → (result : Result Counts CallRefusal) (u : LedgerState) → AlongTaken (sight_on rules c) c.stamp s c.places (places_of (order_given places) count) result u
       → Ran rules s c (order_given places) result u
   ran_shaped None count all may shaped (Ok k) u a =
-      let P : List PlaceOf → Type 0 = λ xs. Led rules c.stamp s.now empty xs u.now a.0.held in
-      let Q : List PlaceOf → Type 0 = λ xs. Counted rules c.stamp s.now empty no_counts xs u.now a.0.held (counts_of k) in
+      let P : List PlaceOf → Type 0 = λ xs. Led (sight_on rules c) c.stamp s.now empty xs u.now a.0.held in
+      let Q : List PlaceOf → Type 0 = λ xs. Counted (sight_on rules c) c.stamp s.now empty no_counts xs u.now a.0.held (counts_of k) in
       let is : along c.places (places_from 0 count) ≡ c.places = along_by_place c.places count ∙ take_past c.places count all in
       (record { shaped = shaped; held = a.0.held; led = subst P is a.0.led; sound = a.0.sound; counted = subst Q is a.0.counted }, a.1)
   ran_shaped (Some places) count all may shaped (Ok k) u a =
@@ -244,20 +245,20 @@ module _ (rules : RulesOf) (s : LedgerState) (c : ReadOf) (whole : IsWhole c) (u
 
   -- where a place hasn't its shape, and the call is ordered
   module _ (count : ℕ) (first : IsFirstUnshaped c count) (ordered : is_unordered c ≡ false) where
-    pub ran_before : (refusal : CallRefusal) (u : LedgerState) → AlongTaken rules c.stamp s c.places (places_from 0 count) (Err refusal) u → Ran rules s c None (Err refusal) u
+    pub ran_before : (refusal : CallRefusal) (u : LedgerState) → AlongTaken (sight_on rules c) c.stamp s c.places (places_from 0 count) (Err refusal) u → Ran rules s c None (Err refusal) u
     ran_before refusal u a =
         refused_in_order None count tt (λ position below.
         shaped_before c (position + 1) ordered (λ place h. first.0 place (omega (arith, h, below, length_from 0 count)))) refusal u a
 
-    pub ran_unshaped : (k : Counts) (u : LedgerState) → AlongTaken rules c.stamp s c.places (places_from 0 count) (Ok k) u → Ran rules s c None (Err (Impossible (count + 1) BatchShape)) u
+    pub ran_unshaped : (k : Counts) (u : LedgerState) → AlongTaken (sight_on rules c) c.stamp s c.places (places_from 0 count) (Ok k) u → Ran rules s c None (Err (Impossible (count + 1) BatchShape)) u
     ran_unshaped k u a =
-        let P : List PlaceOf → Type 0 = λ xs. Led rules c.stamp s.now empty xs u.now a.0.held in
+        let P : List PlaceOf → Type 0 = λ xs. Led (sight_on rules c) c.stamp s.now empty xs u.now a.0.held in
         let J : Bool → Type 0 = λ b. IsJudgedBy b (count + 1) count in
         let judged : IsJudgedBy (is_unordered c) (count + 1) count = subst J (sym ordered) (omega arith) in (
           record {
             count = count;
             before = possible None count (shaped_before c count ordered first.0)
-                (taken_can (DoesPlace rules c.stamp) TellsPlace s.now empty (take count c.places) u.now a.0.held (subst P (along_by_place c.places count) a.0.led) a.0.sound);
+                (taken_can (DoesPlace (sight_on rules c) c.stamp) TellsPlace s.now empty (take count c.places) u.now a.0.held (subst P (along_by_place c.places count) a.0.led) a.0.sound);
             never = λ p. first.1 (p.shaped count judged);
             unrefused = unrefused;
             speaks = in_shape count refl judged first refl;
@@ -271,8 +272,8 @@ module _ (rules : RulesOf) (s : LedgerState) (c : ReadOf) (whole : IsWhole c) (u
   ran_misshapen order place first unordered sound =
       let J : Bool → Type 0 = λ b. IsJudgedBy b (0 + 1) place in
       let judged : IsJudgedBy (is_unordered c) (0 + 1) place = subst J (sym unordered) (omega arith) in
-      let C : List PlaceOf → Type 0 = λ xs. CanBeDone (DoesPlace rules c.stamp) s.now empty xs in
-      let none = taken_can (DoesPlace rules c.stamp) TellsPlace s.now empty [] s.now empty (explains_none (DoesPlace rules c.stamp) TellsPlace s.now empty) sound in (
+      let C : List PlaceOf → Type 0 = λ xs. CanBeDone (DoesPlace (sight_on rules c) c.stamp) s.now empty xs in
+      let none = taken_can (DoesPlace (sight_on rules c) c.stamp) TellsPlace s.now empty [] s.now empty (explains_none (DoesPlace (sight_on rules c) c.stamp) TellsPlace s.now empty) sound in (
         record {
           count = 0;
           before = possible order 0 (λ other j. absurd (judged_none (is_unordered c) other j)) (subst C (sym (take_zero (places_taken c order))) none);

@@ -7,17 +7,28 @@ use Rattle.kmipa_passed.specs.Leaving.{HeldOf, empty}
 use Rattle.kmipa_batch.specs.Shapes.{IsFirstFailed, NoneFailed}
 use Rattle.kmipa_batch.specs.Orders.{IsAnsweredPlace, IsTakingOrder, along}
 use Rattle.kmipa_aside.specs.Passed.{DoesPassed}
-use Rattle.kmipa_aside.specs.Places.{DoesJudged}
+use Rattle.kmipa_aside.specs.InSight.{DoesInSight}
+use Rattle.kmipa_aside.specs.Sights.{SightOf, sight_of}
+use Rattle.kmipa_aside.specs.declared.sight.Sight.{Sight}
 use Rattle.kmipa_aside.specs.Worlds.{WorldOf}
-use Rattle.kmipa_places.specs.Calls.{ReadOf}
+use Rattle.kmipa_places.specs.Calls.{ReadOf, hiding, read_of}
+use Rattle.kmipa_places.specs.declared.call.Readable.{Readable}
 use Rattle.kmipa_places.specs.Places.{PlaceOf, judged, passed}
 use Rattle.kmipa_bundle.specs.Deeds.{ChainOf}
 use Rattle.kmipa_bundle.specs.Shapes.{IsShaped, answers_as, is_unordered, request_as, response_as}
 
+-- by what the places of a call are judged
+abbrev pub sight_on : RulesOf → ReadOf → SightOf
+sight_on rules c = record { rules = rules; hidden = c.hidden }
+
+-- a call of the program, where this is in sight
+abbrev pub call_seen : Sight → Readable → ReadOf
+call_seen sight call = hiding (sight_of sight).hidden (read_of call)
+
 -- what a place does
-abbrev pub DoesPlace : RulesOf → ℤ → PlaceOf → WorldOf → HeldOf → WorldOf → HeldOf → Type 0
-DoesPlace rules t (judged ask answer) w before w' after = DoesJudged rules t ask answer w before w' after
-DoesPlace rules t (passed by p) w before w' after = DoesPassed t p w before w' after
+abbrev pub DoesPlace : SightOf → ℤ → PlaceOf → WorldOf → HeldOf → WorldOf → HeldOf → Type 0
+DoesPlace sight t (judged ask answer) w before w' after = DoesInSight sight t ask answer w before w' after
+DoesPlace sight t (passed by p) w before w' after = DoesPassed t p w before w' after
 
 -- the places as their items are taken: by place, or in this order
 abbrev pub places_taken : ReadOf → Option (List ℕ) → List PlaceOf
@@ -38,7 +49,7 @@ pub record Bundle (rules : RulesOf) (c : ReadOf) (order : Option (List ℕ)) (w 
   pub shaped : IsShaped c
   pub last : WorldOf
   pub held : HeldOf
-  pub chain : ChainOf (DoesPlace rules c.stamp) (places_taken c order) w empty last held
+  pub chain : ChainOf (DoesPlace (sight_on rules c) c.stamp) (places_taken c order) w empty last held
   pub leaves : LeavesOver c w last w'
 
 -- by whether the response refuses the whole message, which changes nothing

@@ -21,20 +21,20 @@ pub record CanBeDone {A : Type 0} (does : A → Deed) (m : Meaning) (before : He
   pub held : HeldOf
   pub chain : ChainOf does xs (world choice m) before left held
 
--- a place at a moment, a call that can be read, whose items are taken in this order, or what one leaves that can't be
+-- a place at a moment, where a server may hide these objects, a call that can be read, whose items are taken in this order, or what one leaves that can't be
 pub data DeedOf : Type 0 where
-  place : ℤ → PlaceOf → DeedOf
+  place : List (List ℕ) → ℤ → PlaceOf → DeedOf
   call : ReadOf → Option (List ℕ) → DeedOf
   unread : ℤ → LeftOf → DeedOf
 
 abbrev pub DoesDeed : RulesOf → DeedOf → WorldOf → HeldOf → WorldOf → HeldOf → Type 0
-DoesDeed rules (place t p) w before w' after = DoesPlace rules t p w before w' after
+DoesDeed rules (place hidden t p) w before w' after = DoesPlace (record { rules = rules; hidden = hidden }) t p w before w' after
 DoesDeed rules (call c order) w before w' after = DoesRead rules c order w before w' after
 DoesDeed rules (unread t left) w before w' after = DoesUnread t left w before w' after
 
 -- the bytes that it tells
 abbrev pub TellsDeed : DeedOf → List ℕ → Type 0
-TellsDeed (place t p) bytes = TellsPlace p bytes
+TellsDeed (place hidden t p) bytes = TellsPlace p bytes
 TellsDeed (call c order) bytes = TellsSome TellsPlace c.places bytes
 TellsDeed (unread t left) bytes = ⊥
 

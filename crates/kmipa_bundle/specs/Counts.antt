@@ -9,6 +9,7 @@ use Rattle.kmipa_passed.specs.Leaving.{HeldOf, empty}
 use Rattle.kmipa_aside.specs.Becoming.{stand_in}
 use Rattle.kmipa_aside.specs.Cases.{case}
 use Rattle.kmipa_aside.specs.Explains.{world}
+use Rattle.kmipa_aside.specs.Sights.{SightOf}
 use Rattle.kmipa_aside.specs.Standing.{StandOf}
 use Rattle.kmipa_aside.specs.Worlds.{WorldOf, stand}
 use Rattle.kmipa_aside.specs.declared.case.Case.{Case}
@@ -18,7 +19,7 @@ use Rattle.kmipa_places.specs.Counting.{is_judged_operation}
 use Rattle.kmipa_places.specs.Places.{PlaceOf, judged, passed}
 use Rattle.kmipa_places.specs.declared.place.By.{By}
 use Rattle.kmipa_places.specs.declared.place.By.TheVariants.{Request, Answer, Witness}
-use Rattle.kmipa_bundle.specs.Bundles.{DoesPlace, places_taken}
+use Rattle.kmipa_bundle.specs.Bundles.{DoesPlace, places_taken, sight_on}
 use Rattle.kmipa_bundle.specs.declared.counts.Counts.{Counts}
 use Rattle.kmipa_bundle.specs.declared.ruling.Ruling.{Ruling}
 use Rattle.kmipa_bundle.specs.declared.ruling.Ruling.TheVariants.{ByRequest, ByAnswer, ByWitness, ByObject, Judged}
@@ -80,15 +81,15 @@ counted_there rules s before (Some place) n = counted (ruling_of rules s before 
 -- ---- along a call
 
 -- the places are done one after the other, and each is counted as it stands when it is done
-abbrev pub CountsAlong : RulesOf → ℤ → List PlaceOf → WorldOf → HeldOf → CountsOf → WorldOf → HeldOf → CountsOf → Type 0
-CountsAlong rules t [] w before n w' after n' = (w' ≡ w) × (after ≡ before) × (n' ≡ n)
-CountsAlong rules t (place ∷ places) w before n w' after n' =
-    (v : WorldOf) × (between : HeldOf) × DoesPlace rules t place w before v between
-    × CountsAlong rules t places v between (counted (ruling_of rules (stand w) before place) n) w' after n'
+abbrev pub CountsAlong : SightOf → ℤ → List PlaceOf → WorldOf → HeldOf → CountsOf → WorldOf → HeldOf → CountsOf → Type 0
+CountsAlong sight t [] w before n w' after n' = (w' ≡ w) × (after ≡ before) × (n' ≡ n)
+CountsAlong sight t (place ∷ places) w before n w' after n' =
+    (v : WorldOf) × (between : HeldOf) × DoesPlace sight t place w before v between
+    × CountsAlong sight t places v between (counted (ruling_of sight.rules (stand w) before place) n) w' after n'
 
 -- so in each world that the ledger stood for: from `m` to `n`
-abbrev pub Counted : RulesOf → ℤ → Meaning → HeldOf → CountsOf → List PlaceOf → Meaning → HeldOf → CountsOf → Type 0
-Counted rules t m before k places n after k' = (c : Choice) → Chooses n.secrets c → CountsAlong rules t places (world c m) before k (world c n) after k'
+abbrev pub Counted : SightOf → ℤ → Meaning → HeldOf → CountsOf → List PlaceOf → Meaning → HeldOf → CountsOf → Type 0
+Counted sight t m before k places n after k' = (c : Choice) → Chooses n.secrets c → CountsAlong sight t places (world c m) before k (world c n) after k'
 
 -- of a message that is refused as a whole the first place counts as it stands
 abbrev pub counts_first : RulesOf → StandOf → List PlaceOf → CountsOf
@@ -99,7 +100,7 @@ counts_first rules s (place ∷ places) = counted (ruling_of rules s empty place
 abbrev pub CountsBy : Bool → RulesOf → LedgerState → ReadOf → Option (List ℕ) → CountsOf → LedgerState → Type 0
 CountsBy true rules s c order k u = k ≡ counts_first rules (stand_in s.now) c.places
 CountsBy false rules s c order k u =
-    (d : Choice) → Chooses u.now.secrets d → (last : WorldOf) × (held : HeldOf) × CountsAlong rules c.stamp (places_taken c order) (world d s.now) empty no_counts last held k
+    (d : Choice) → Chooses u.now.secrets d → (last : WorldOf) × (held : HeldOf) × CountsAlong (sight_on rules c) c.stamp (places_taken c order) (world d s.now) empty no_counts last held k
 
 abbrev pub CallCounted : {E : Type 0} → RulesOf → LedgerState → ReadOf → Option (List ℕ) → Result Counts E → LedgerState → Type 0
 CallCounted rules s c order (Ok k) u = CountsBy c.refused rules s c order (counts_of k) u

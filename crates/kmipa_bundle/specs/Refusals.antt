@@ -14,13 +14,15 @@ use Rattle.kmipa_batch.specs.declared.refusal.CallRefusal.{CallRefusal}
 use Rattle.kmipa_batch.specs.declared.refusal.CallRefusal.TheVariants.{Impossible, Memory}
 use Rattle.kmipa_aside.specs.Explains.{Explains, Refutes, Took, world}
 use Rattle.kmipa_aside.specs.Places as asides
+use Rattle.kmipa_aside.specs.InSight.{lowest_in_sight}
+use Rattle.kmipa_aside.specs.Sights.{SightOf}
 use Rattle.kmipa_aside.specs.Taking.{Tells}
 use Rattle.kmipa_aside.specs.Worlds.{WorldOf}
 use Rattle.kmipa_places.specs.Calls.{ReadOf}
 use Rattle.kmipa_places.specs.Places.{PlaceOf, judged, passed}
 use Rattle.kmipa_bundle.specs.Deeds.{ChainOf, TellsSome}
 use Rattle.kmipa_bundle.specs.Shapes.{IsShapedAt, IsFirstUnshaped, is_unordered}
-use Rattle.kmipa_bundle.specs.Bundles.{DoesPlace, DoesRead, places_taken}
+use Rattle.kmipa_bundle.specs.Bundles.{DoesPlace, DoesRead, places_taken, sight_on}
 
 -- ---- one place
 
@@ -39,14 +41,14 @@ TellsPlace (judged ask answer) bytes = Tells ask answer bytes
 TellsPlace (passed by p) bytes = ⊥
 
 -- the lowest reason against it; only one speaks against what isn't judged
-abbrev pub IsLowest : RulesOf → Meaning → HeldOf → ℤ → PlaceOf → Why → Type 0
-IsLowest rules m before t (judged ask answer) why = asides.lowest_at rules m before t (asides.judged ask answer) ≡ Some why
-IsLowest rules m before t (passed by p) why = why ≡ OperationDiffers
+abbrev pub IsLowest : SightOf → Meaning → HeldOf → ℤ → PlaceOf → Why → Type 0
+IsLowest sight m before t (judged ask answer) why = lowest_in_sight sight m before t (asides.judged ask answer) ≡ Some why
+IsLowest sight m before t (passed by p) why = why ≡ OperationDiffers
 
 -- no choice allows it, and this is the lowest reason
-pub record Refuted (rules : RulesOf) (t : ℤ) (m : Meaning) (before : HeldOf) (place : PlaceOf) (why : Why) : Type 0 where
-  pub named : IsLowest rules m before t place why
-  pub refutes : Refutes (DoesPlace rules t place) m before
+pub record Refuted (sight : SightOf) (t : ℤ) (m : Meaning) (before : HeldOf) (place : PlaceOf) (why : Why) : Type 0 where
+  pub named : IsLowest sight m before t place why
+  pub refutes : Refutes (DoesPlace sight t place) m before
 
 -- ---- the call
 
@@ -62,7 +64,7 @@ pub record IsPossibleUpTo (rules : RulesOf) (m : Meaning) (c : ReadOf) (order : 
   pub chooses : Chooses m.secrets choice
   pub left : WorldOf
   pub held : HeldOf
-  pub chain : ChainOf (DoesPlace rules c.stamp) (take count (places_taken c order)) (world choice m) empty left held
+  pub chain : ChainOf (DoesPlace (sight_on rules c) c.stamp) (take count (places_taken c order)) (world choice m) empty left held
 
 -- What speaks after the first `count` places of the order, and against which item, reported from 1. A shape that is judged next is wrong, and
 -- the lowest place without its shape is reported. Or they are right, and against the next place speaks this reason, the lowest, the known bytes and
@@ -72,8 +74,8 @@ pub data SpeaksAt (rules : RulesOf) (m : Meaning) (c : ReadOf) (order : Option (
       → SpeaksAt rules m c order count item why
   in_item : (place : ℕ) → item ≡ place + 1 → AreShapedFor c (count + 1) → place_at order count ≡ Some place
       → (between : Meaning) (held : HeldOf) (there : PlaceOf)
-      → Explains (ChainOf (DoesPlace rules c.stamp) (take count (places_taken c order))) (TellsSome TellsPlace (take count (places_taken c order))) m empty between held → IsSound between
-      → slice_get c.places place ≡ Some there → Refuted rules c.stamp between held there why
+      → Explains (ChainOf (DoesPlace (sight_on rules c) c.stamp) (take count (places_taken c order))) (TellsSome TellsPlace (take count (places_taken c order))) m empty between held → IsSound between
+      → slice_get c.places place ≡ Some there → Refuted (sight_on rules c) c.stamp between held there why
       → SpeaksAt rules m c order count item why
 
 -- so many places are possible, with one more they are not, and this item is reported with this reason

@@ -8,6 +8,7 @@ ghost use Rattle.kmipa_passed.specs.Leaving.{held_of};
 ghost use Rattle.kmipa_batch.specs.Orders.{order_given};
 ghost use Rattle.kmipa_batch.specs.Running.{places_of, refused_at};
 ghost use Rattle.kmipa_aside.specs.Becoming.{stand_in};
+ghost use Rattle.kmipa_aside.specs.Sights.{sight_of};
 ghost use Rattle.kmipa_places.specs.Places.{place_of};
 ghost use Rattle.kmipa_bundle.specs.Counts.{counted_there, counts_of, total};
 ghost use Rattle.kmipa_bundle.specs.Refusals.{is_readable_at};
@@ -17,6 +18,7 @@ use crate::counts::Counts;
 use crate::place::take_place;
 use crate::progress::Progress;
 use crate::ruling::ruling_of;
+use kmipa_aside::Sight;
 use kmipa_batch::CallRefusal;
 use kmipa_msgs::Rules;
 use kmipa_ops::Refusal;
@@ -30,7 +32,7 @@ use std::alloc::Global;
 pub(crate) fn take_along<'p, L: Ledger>(
     alloc: Global,
     ledger: &mut L,
-    rules: &Rules,
+    sight: Sight<'_, 'p>,
     call: &'p Readable<'p>,
     places: Option<&[usize]>,
     count: usize,
@@ -39,7 +41,7 @@ pub(crate) fn take_along<'p, L: Ledger>(
     requires readable { list_all is_readable_at (map place_of call.now.places.items) ≡ true }
     requires counted { length (places_of (order_given (maybe_lent places)) count) ≡ count }
     requires from_one { IfSome (maybe_lent places) (λ ps. All (λ p. 1 ≤ p) ps) }
-    ensures { AlongTaken (rules_of rules.now) call.now.stamp (L.state ledger.old) (map place_of call.now.places.items)
+    ensures { AlongTaken (sight_of sight.entry) call.now.stamp (L.state ledger.old) (map place_of call.now.places.items)
         (places_of (order_given (maybe_lent places.entry)) count) result (L.state ledger.new) }
 {
     let mut progress = Progress {
@@ -48,7 +50,7 @@ pub(crate) fn take_along<'p, L: Ledger>(
     };
     for position in 0..count {
         let place = place_at(places, position);
-        match go_there(alloc, ledger, rules, call, progress, place) {
+        match go_there(alloc, ledger, sight, call, progress, place) {
             Ok(after) => progress = after,
             Err(refusal) => return Err(reported_at(place, refusal)),
         }
@@ -75,7 +77,7 @@ fn place_at(places: Option<&[usize]>, position: usize) -> usize
 fn go_there<'p, L: Ledger>(
     alloc: Global,
     ledger: &mut L,
-    rules: &Rules,
+    sight: Sight<'_, 'p>,
     call: &'p Readable<'p>,
     before: Progress<'p>,
     place: usize,
@@ -83,11 +85,11 @@ fn go_there<'p, L: Ledger>(
     requires sound { IsSound (L.state ledger.old).now }
     requires readable { list_all is_readable_at (map place_of call.now.places.items) ≡ true }
     requires few { total (counts_of before.counts) < usize.MAX }
-    ensures { GoesThere (rules_of rules.now) (L.state ledger.old) before.entry call.now.stamp
+    ensures { GoesThere (sight_of sight.entry) (L.state ledger.old) before.entry call.now.stamp
         (slice_get (map place_of call.now.places.items) place) result (L.state ledger.new) }
 {
-    let counts = count_there(ledger, rules, call, before, place);
-    match take_there(alloc, ledger, rules, call, before.held, place) {
+    let counts = count_there(ledger, sight.rules, call, before, place);
+    match take_there(alloc, ledger, sight, call, before.held, place) {
         Ok(held) => Ok(Progress { held, counts }),
         Err(refusal) => Err(refusal),
     }
@@ -119,21 +121,21 @@ pub(crate) fn count_there<'p, L: Ledger>(
 fn take_there<'p, L: Ledger>(
     alloc: Global,
     ledger: &mut L,
-    rules: &Rules,
+    sight: Sight<'_, 'p>,
     call: &'p Readable<'p>,
     before: Held<'p>,
     place: usize,
 ) -> Result<Held<'p>, Refusal>
     requires sound { IsSound (L.state ledger.old).now }
     requires readable { list_all is_readable_at (map place_of call.now.places.items) ≡ true }
-    ensures { TakenThere (rules_of rules.now) (L.state ledger.old) (held_of before.entry) call.now.stamp
+    ensures { TakenThere (sight_of sight.entry) (L.state ledger.old) (held_of before.entry) call.now.stamp
         (slice_get (map place_of call.now.places.items) place) result (L.state ledger.new) }
 {
     let Some(there) = call.places.get(place) else {
         return Ok(before);
     };
     let t = stamp_of(call);
-    take_place(alloc, ledger, rules, t, before, there)
+    take_place(alloc, ledger, sight, t, before, there)
 }
 
 fn stamp_of(call: &Readable) -> i64

@@ -10,7 +10,7 @@ ghost use Rattle.kmipa_batch.specs.Orders.{order_given};
 ghost use Rattle.kmipa_aside.specs.Becoming.{stand_in};
 ghost use Rattle.kmipa_places.specs.Calls.{read_of};
 ghost use Rattle.kmipa_places.specs.Places.{place_of};
-ghost use Rattle.kmipa_bundle.specs.Bundles.{IsWhole, MayTake};
+ghost use Rattle.kmipa_bundle.specs.Bundles.{IsWhole, MayTake, call_seen};
 ghost use Rattle.kmipa_bundle.specs.Counts.{CallCounted, counts_first, counts_of};
 ghost use Rattle.kmipa_bundle.specs.Refusals.{CallTaken, is_readable_at, is_readable_call};
 ghost use Rattle.kmipa_bundle.specs.Running.{Ran, TakesCount};
@@ -21,6 +21,7 @@ use crate::counts::Counts;
 use crate::order::is_unordered;
 use crate::progress::Progress;
 use crate::shape::{first_failed, first_unshaped, is_undone};
+use kmipa_aside::Sight;
 use kmipa_batch::CallRefusal;
 use kmipa_msgs::{BatchOption, Rules};
 use kmipa_ops::Why;
@@ -34,14 +35,14 @@ use std::alloc::Global;
 /// whole response, the ledger then stands for what the call leaves, and knows what the answers told; else the first item at which none does is
 /// reported with the lowest reason, and nothing is changed. In an ordered call the shape of a place is judged just before its item; in a call
 /// without order all shapes are judged first. A message that is refused as a whole changes nothing. After want of memory the ledger is as before.
-/// It is told how many places are judged.
+/// It is told how many places are judged. What a server may hide from the client of the call is told by `sight`.
 ///
 /// Each item that has an answer has its place, as `read_call` reads it: `IsWhole`. Each wanted payload has been put in: `is_readable_call`.
 /// Places are given only where the items may be done in their order: `MayTake`.
 pub fn take_call<'p, L: Ledger>(
     alloc: Global,
     ledger: &mut L,
-    rules: &Rules,
+    sight: Sight<'_, 'p>,
     call: &'p Readable<'p>,
     places: Option<&[usize]>,
 ) -> Result<Counts, CallRefusal>
@@ -50,19 +51,19 @@ pub fn take_call<'p, L: Ledger>(
     requires readable { is_readable_call (read_of call.now) ≡ true }
     requires from_one { IfSome (maybe_lent places) (λ ps. All (λ p. 1 ≤ p) ps) }
     requires order { MayTake (read_of call.now) (order_given (maybe_lent places)) }
-    ensures taken { CallTaken (rules_of rules.now) (L.state ledger.old) (read_of call.now)
+    ensures taken { CallTaken (rules_of sight.entry.rules.now) (L.state ledger.old) (call_seen sight.entry call.now)
         (order_given (maybe_lent places.entry)) result (L.state ledger.new) }
-    ensures counted { CallCounted (rules_of rules.now) (L.state ledger.old) (read_of call.now)
+    ensures counted { CallCounted (rules_of sight.entry.rules.now) (L.state ledger.old) (call_seen sight.entry call.now)
         (order_given (maybe_lent places.entry)) result (L.state ledger.new) }
 {
     if call.refused {
-        return Ok(count_first(ledger, rules, call));
+        return Ok(count_first(ledger, sight.rules, call));
     }
     let Ok(mark) = ledger.mark() else {
         return Err(CallRefusal::Memory);
     };
     let failed = first_failed(call.outcomes.as_slice());
-    match take_places(alloc, ledger, rules, call, places, failed) {
+    match take_places(alloc, ledger, sight, call, places, failed) {
         Ok(counts) => {
             end(ledger, mark, call.option, failed);
             Ok(counts)
@@ -104,7 +105,7 @@ fn end<L: Ledger>(ledger: &mut L, mark: Mark, option: BatchOption, failed: Optio
 fn take_places<'p, L: Ledger>(
     alloc: Global,
     ledger: &mut L,
-    rules: &Rules,
+    sight: Sight<'_, 'p>,
     call: &'p Readable<'p>,
     places: Option<&[usize]>,
     failed: Option<usize>,
@@ -116,19 +117,19 @@ fn take_places<'p, L: Ledger>(
     requires failed_at { FailedAt (answers_as call.now.outcomes.items) failed }
     requires from_one { IfSome (maybe_lent places) (λ ps. All (λ p. 1 ≤ p) ps) }
     requires order { MayTake (read_of call.now) (order_given (maybe_lent places)) }
-    ensures { Ran (rules_of rules.now) (L.state ledger.old) (read_of call.now) (order_given (maybe_lent places.entry)) result
+    ensures { Ran (rules_of sight.entry.rules.now) (L.state ledger.old) (call_seen sight.entry call.now) (order_given (maybe_lent places.entry)) result
         (L.state ledger.new) }
 {
     let Some(unshaped) = first_unshaped(call, failed) else {
         let count = taken_count(call, places);
-        return take_along(alloc, ledger, rules, call, places, count);
+        return take_along(alloc, ledger, sight, call, places, count);
     };
     let refusal = CallRefusal::Impossible(unshaped + 1, Why::BatchShape);
     let shapes_first = is_unordered(call);
     if shapes_first {
         return Err(refusal);
     }
-    take_along(alloc, ledger, rules, call, None, unshaped)?;
+    take_along(alloc, ledger, sight, call, None, unshaped)?;
     Err(refusal)
 }
 

@@ -52,6 +52,7 @@ by_readings t u asides (Ok h) (Ok z) (Some os) (Some ps) b hs zs oe pe = record 
   outcomes = all_outcomes (batch u) os oe;
   refused = refl;
   places = are_places (is_without_order t) asides 1 (batch t) (batch u) ps pe;
+  hidden = refl;
 }
 
 by_messages : (request response : Option Tree) (asides : List ℤ) → is_among asides 0 ≡ false → IsCall request response asides (call_by (both_read_in request response asides) (left request response))
@@ -88,6 +89,7 @@ one_read t u asides c d a b =
     let outcomes = one_list c.outcomes d.outcomes (sym a.outcomes ∙ b.outcomes) in
     let refused = a.refused ∙ sym b.refused in
     let places = one_places (is_without_order t) asides 1 (batch t) (batch u) c.places d.places a.places b.places in
+    let hidden = a.hidden ∙ sym b.hidden in
     (λ i. record {
       option = (header i).option;
       ordered = (header i).ordered;
@@ -97,6 +99,7 @@ one_read t u asides c d a b =
       outcomes = outcomes i;
       refused = refused i;
       places = places i;
+      hidden = hidden i;
     })
 
 pub one_call : (request response : Option Tree) (asides : List ℤ) (c d : CallOf) → IsCall request response asides c → IsCall request response asides d → c ≡ d

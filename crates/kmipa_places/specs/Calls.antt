@@ -19,7 +19,7 @@ use Rattle.kmipa_places.specs.declared.call.Readable.{Readable}
 use denote.Bor.{Bor}
 
 -- What the headers say; how many items the request has, and how each answer ends, from which the shapes follow; whether the response refuses the
--- whole message; and the places.
+-- whole message; the places; and the identifiers of the objects that a server may hide from the client, which its messages don't tell.
 pub record ReadOf : Type 0 where
   pub option : BatchOption
   pub ordered : Bool
@@ -29,6 +29,7 @@ pub record ReadOf : Type 0 where
   pub outcomes : List Outcome
   pub refused : Bool
   pub places : List PlaceOf
+  pub hidden : List (List ℕ)
 
 abbrev pub read_of : Readable → ReadOf
 read_of c = record {
@@ -40,7 +41,12 @@ read_of c = record {
   outcomes = c.outcomes.items;
   refused = c.refused;
   places = map place_of c.places.items;
+  hidden = [];
 }
+
+-- a server may hide these from its client
+abbrev pub hiding : List (List ℕ) → ReadOf → ReadOf
+hiding hidden c = record c { hidden = hidden }
 
 pub data CallOf : Type 0 where
   unread : AsideOf → CallOf
@@ -71,6 +77,7 @@ pub record IsRead (t u : Tree) (asides : List ℤ) (c : ReadOf) : Type 0 where
   pub outcomes : map outcome_at (batch u) ≡ map Some c.outcomes
   pub refused : c.refused ≡ refuses (batch u)
   pub places : ArePlaces (is_without_order t) asides 1 (batch t) (batch u) c.places
+  pub hidden : c.hidden ≡ []
 
 -- THE DEFINITION: by its request and its response, each none where its bytes aren't exactly one item, and by what its turn sets aside
 abbrev pub IsCall : Option Tree → Option Tree → List ℤ → CallOf → Type 0

@@ -160,6 +160,7 @@ read_as t u h z outcomes places = record {
   outcomes = outcomes;
   refused = refuses (batch u);
   places = places;
+  hidden = [];
 }
 
 abbrev pub read_by : Tree → Tree → Result HeaderOf OutsideKind → Result ℤ OutsideKind → Option (List Outcome) → Option (List PlaceOf) → Option ReadOf
