@@ -51,7 +51,7 @@ module _ (g : GrantsOf) (t : TurnOf) (x : ReadOf) where
         asides_refuse not = inr ((full, places, completes), not, refl)
 
         pub read_made : (c : RecordedOf) (s : StepOf) → MaySetAside (read x) t.asides
-            → s ≡ record { number = c.number; begin = c.begin; end = c.end; stamp = Some x.stamp; taken = takes full places; excepted = excepted_in x.places } → ReadStep g c t x s
+            → s ≡ record { number = c.number; client = c.client; begin = c.begin; end = c.end; stamp = Some x.stamp; taken = takes full places; excepted = excepted_in x.places } → ReadStep g c t x s
         read_made c s may is = record { full = full; places = places; completes = completes; aside = may; is = is }
 
 -- ---- the turn

@@ -1,7 +1,7 @@
 -- WHAT A TURN OF A WITNESS TAKES, where some items aren't judged, and some calls can't be read (profile).
 use Rattle.std.specs.Prelude.{◌≡◌, ◌≢◌, ◌<◌, ◌⊎◌, ℕ, suc, ℤ, pos, ◌+◌, true, false, if◌then◌else◌, List, [], ◌∷◌, length, AllPairs, Contains, Option, Some, None, option_map}
 use Rattle.kmipa_ttlv.specs.Tree.{Tree}
-use Rattle.kmipa_msgs.specs.Messages.{RequestOf, ResponseOf}
+use Rattle.kmipa_msgs.specs.Messages.{RequestOf, ResponseOf, lent}
 use Rattle.kmipa_record.specs.Witnesses.{TurnOf}
 use Rattle.kmipa_record.specs.Entries.{items_of}
 use Rattle.kmipa_passed.specs.Leaving.{AsideOf as LeftOf, aside_of}
@@ -12,7 +12,7 @@ use Rattle.kmipa_check.specs.Fills.{IsFilled}
 use Rattle.kmipa_check.specs.Grants.{GrantsOf}
 use Rattle.kmipa_check.specs.Moments.{IsMoment}
 use Rattle.kmipa_check.specs.Places.{GivesPlaces}
-use Rattle.kmipa_places.specs.Calls.{CallOf, ReadOf, unread, read, IsCall, read_of}
+use Rattle.kmipa_places.specs.Calls.{CallOf, ReadOf, unread, read, IsCall, hiding, read_of}
 use Rattle.kmipa_msgs.specs.Operations.{operation_of}
 use Rattle.kmipa_places.specs.Counting.{is_judged_operation, UnreadCountsOf, AreUnreadCounts, unread_counts_of}
 use Rattle.kmipa_places.specs.Places.{PlaceOf, judged, passed}
@@ -34,10 +34,11 @@ pub data TakenOf : Type 0 where
   leaves : LeftOf → UnreadCountsOf → TakenOf
   takes : ReadOf → Option (List ℕ) → TakenOf
 
--- A call that is taken: its number; the places of its marks; the Time Stamp of its response as it was recorded or answered, none where the call can't be
+-- A call that is taken: its number; its client; the places of its marks; the Time Stamp of its response as it was recorded or answered, none where the call can't be
 -- read; what becomes of it; and how much of what the turn sets aside is aside by that alone.
 pub record StepOf : Type 0 where
   pub number : ℤ
+  pub client : List ℕ
   pub begin : ℕ
   pub end : Option ℕ
   pub stamp : Option ℤ
@@ -49,8 +50,21 @@ abbrev pub taken_of : Taken → TakenOf
 taken_of (taken_as.Leaves left counts) = leaves (aside_of left) (unread_counts_of counts)
 taken_of (taken_as.Takes c places) = takes (read_of c) (option_map items_of places)
 
+-- where these are hidden from its client
+abbrev pub taken_hiding : List (List ℕ) → TakenOf → TakenOf
+taken_hiding hidden (leaves left counts) = leaves left counts
+taken_hiding hidden (takes c places) = takes (hiding hidden c) places
+
 abbrev pub step_of : Step → StepOf
-step_of s = record { number = s.number; begin = s.begin; end = s.end; stamp = s.stamp; taken = taken_of s.taken; excepted = s.excepted }
+step_of s = record {
+  number = s.number;
+  client = lent s.client;
+  begin = s.begin;
+  end = s.end;
+  stamp = s.stamp;
+  taken = taken_of s.taken;
+  excepted = s.excepted;
+}
 
 -- the moment at which it is taken; a call that can't be read has none
 abbrev pub moment_in : TakenOf → Option ℤ
@@ -146,4 +160,4 @@ pub record IsStep (g : GrantsOf) (c : RecordedOf) (t : TurnOf) (s : StepOf) : Ty
   pub taken : TakenOf
   pub excepted : ℕ
   pub takes : Takes g c t request response call stamp taken excepted
-  pub is : s ≡ record { number = c.number; begin = c.begin; end = c.end; stamp = stamp; taken = taken; excepted = excepted }
+  pub is : s ≡ record { number = c.number; client = c.client; begin = c.begin; end = c.end; stamp = stamp; taken = taken; excepted = excepted }

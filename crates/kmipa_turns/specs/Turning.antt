@@ -72,7 +72,7 @@ pub record UnreadStep (c : RecordedOf) (t : TurnOf) (request response : Option T
   pub counted : AreUnreadCounts request response counts
   pub excepted : ℕ
   pub is_excepted : IsExcepted c t request response excepted
-  pub is : s ≡ record { number = c.number; begin = c.begin; end = c.end; stamp = None; taken = leaves left counts; excepted = excepted }
+  pub is : s ≡ record { number = c.number; client = c.client; begin = c.begin; end = c.end; stamp = None; taken = leaves left counts; excepted = excepted }
 
 -- or it is refused
 abbrev pub UnreadRefused : TurnOf → LeftOf → StepFault → Type 0
@@ -129,7 +129,7 @@ pub record ReadStep (g : GrantsOf) (c : RecordedOf) (t : TurnOf) (x : ReadOf) (s
   pub places : Option (List ℕ)
   pub completes : Completes g x t full places
   pub aside : MaySetAside (read x) t.asides
-  pub is : s ≡ record { number = c.number; begin = c.begin; end = c.end; stamp = Some x.stamp; taken = takes full places; excepted = excepted_in x.places }
+  pub is : s ≡ record { number = c.number; client = c.client; begin = c.begin; end = c.end; stamp = Some x.stamp; taken = takes full places; excepted = excepted_in x.places }
 
 -- or it is refused
 abbrev pub ReadRefused : GrantsOf → TurnOf → ReadOf → StepFault → Type 0

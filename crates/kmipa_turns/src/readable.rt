@@ -22,7 +22,7 @@ use std::alloc::Global;
 pub fn read_step<'a>(
     alloc: Global,
     grants: &Grants,
-    call: &Recorded,
+    call: &Recorded<'a>,
     turn: &'a Turn,
     said: Readable<'a>,
 ) -> Result<Step<'a>, StepFault>
@@ -50,6 +50,7 @@ pub fn read_step<'a>(
     }
     Ok(Step {
         number: call.number,
+        client: call.client,
         begin: call.begin,
         end: call.end,
         stamp: Some(stamp),

@@ -8,6 +8,8 @@ use kmipa_places::{Readable, UnreadCounts};
 pub struct Step<'a> {
     /// The number of the call in the transcript.
     pub number: i32,
+    /// The client that it came from.
+    pub client: &'a str,
     /// The place of its begin mark among the marks, from 0.
     pub begin: usize,
     /// The place of its end mark; none of a call that is open.

@@ -22,7 +22,7 @@ use std::alloc::{AllocError, Global};
 /// The step that a turn makes with a call that can't be read, and leaves this.
 pub fn unread_step<'a>(
     alloc: Global,
-    call: &Recorded,
+    call: &Recorded<'a>,
     turn: &Turn,
     request: Option<&View>,
     response: Option<&View>,
@@ -43,6 +43,7 @@ pub fn unread_step<'a>(
     let counts = count_unread(alloc, request, response)?;
     Ok(Step {
         number: call.number,
+        client: call.client,
         begin: call.begin,
         end: call.end,
         stamp: None,

@@ -3,6 +3,7 @@ use mir.Val.{SFits}
 use mir.Syntax.{w32, w64}
 use Rattle.std.proofs.lemmas.Int.{to_z-of_z}
 use Rattle.std.proofs.lemmas.List.{length-map}
+use Rattle.kmipa_msgs.specs.Messages.{lent}
 use Rattle.kmipa_record.specs.Entries.{items_of}
 use Rattle.kmipa_record.specs.Witnesses.{turn_of}
 use Rattle.kmipa_check.specs.Grants.{grants_of}
@@ -72,5 +73,5 @@ returns c =
     let counted : length (map place_of c.args.said.places.items) ≡ c.len-count.result = omega (arith, c.len-count.ensures, len, length-map c.args.said.places.items place_of) in
     read_made g t x c.in-Some.moment (subst M (to_z-of_z w64 c.args.said.stamp fits) c.in-Some.ensures) places (subst N c.deref.ensures.value c.in-Ok.ensures) (read_of c.in-Ok-completed.full)
     (subst F (to_z-of_z w64 c.in-Some.moment moment) c.in-Ok-completed.ensures) (recorded_of c.args.call.now) _ (subst A c.deref-2.ensures.value (c.if-not-may_set_aside.ensures (read x) counted))
-    (same_step _ c.args.call.now.number c.args.call.now.begin c.args.call.now.end _ c.args.said.stamp (takes (read_of c.in-Ok-completed.full) places) _ (excepted_in x.places) (to_z-of_z w32 c.args.call.now.number number)
+    (same_step _ c.args.call.now.number (lent c.args.call.now.client) c.args.call.now.begin c.args.call.now.end _ c.args.said.stamp (takes (read_of c.in-Ok-completed.full) places) _ (excepted_in x.places) (to_z-of_z w32 c.args.call.now.number number)
     (to_z-of_z w64 c.args.said.stamp fits) (c.excepted_in-excepted.ensures ∙ ap (λ (ps : List Place). excepted_in (map place_of ps)) c.as_slice.ensures.value))

@@ -2,6 +2,7 @@ use Rattle.std.proofs.Common.{inr, ℤ, List, None, refl, ap, subst, rules}
 use mir.Val.{SFits}
 use mir.Syntax.{w32}
 use Rattle.std.proofs.lemmas.Int.{to_z-of_z}
+use Rattle.kmipa_msgs.specs.Messages.{lent}
 use Rattle.kmipa_passed.specs.Leaving.{aside_of}
 use Rattle.kmipa_places.specs.Calls.{unread}
 use Rattle.kmipa_places.specs.Counting.{unread_counts_of}
@@ -27,6 +28,6 @@ returns c =
       counted = c.in_ok-counts.ensures;
       excepted = c.in_ok-excepted.excepted;
       is_excepted = c.in_ok-excepted.ensures;
-      is = ap (λ (n : ℤ). made n c.args.call.now.begin c.args.call.now.end None (leaves (aside_of c.args.left) (unread_counts_of c.in_ok-counts.counts)) c.in_ok-excepted.excepted)
+      is = ap (λ (n : ℤ). made n (lent c.args.call.now.client) c.args.call.now.begin c.args.call.now.end None (leaves (aside_of c.args.left) (unread_counts_of c.in_ok-counts.counts)) c.in_ok-excepted.excepted)
           (to_z-of_z w32 c.args.call.now.number number);
     }
