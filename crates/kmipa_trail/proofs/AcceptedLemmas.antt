@@ -11,6 +11,7 @@ use Rattle.kmipa_turns.specs.Recorded.{RecordedOf, AreRecorded}
 use Rattle.kmipa_turns.specs.Steps.{StepOf}
 use Rattle.kmipa_trail.specs.Laws.{IsYes}
 use Rattle.kmipa_trail.specs.Orders.{IsOrder, WitnessFaultAt}
+use Rattle.kmipa_trail.specs.Owners.{in_sight}
 use Rattle.kmipa_trail.specs.Tallies.{TallyOf}
 use Rattle.kmipa_trail.specs.Verdicts.{Checks, IsAccepted, IsRefused}
 use Rattle.kmipa_trail.specs.declared.fault.Fault.{Fault}
@@ -23,13 +24,13 @@ use Rattle.kmipa_trail.proofs.WitnessLemmas.{one_order_lem, order_right}
 
 module _ (marks : List MarkOf) (declared : DeclarationOf) (turns : List TurnOf) (tally : TallyOf) (r : Marks.AreRecorded marks) (a : IsAccepted marks declared turns tally) where
   never_refused : (v : Refused) (stamp : Option ℤ) (calls : List RecordedOf) (order : List StepOf) → AreRecorded marks calls → IsOrder (grants_declared declared) calls turns order
-      → IsRefused declared order v stamp → ⊥
+      → IsRefused declared (in_sight declared order) v stamp → ⊥
   never_refused v stamp calls order are o refused =
       let e : calls ≡ a.calls = same_calls marks r calls a.calls are a.are in
       let P : List RecordedOf → Type 0 = λ cs. IsOrder (grants_declared declared) cs turns order in
       let same : order ≡ a.steps = one_order_lem (grants_declared declared) a.calls turns order a.steps (numbered_once marks r a.calls a.are) (subst P e o) a.order in
-      let Q : List StepOf → Type 0 = λ steps. IsRefused declared steps v stamp in
-      refused_is_never_lem declared a.steps v stamp a.start a.last (subst Q same refused) a.placed a.described a.linked
+      let Q : List StepOf → Type 0 = λ steps. IsRefused declared (in_sight declared steps) v stamp in
+      refused_is_never_lem declared (in_sight declared a.steps) v stamp a.start a.last (subst Q same refused) a.placed a.described a.linked
 
   never_faulty : (at : ℕ) (kind : WitnessKind) (calls : List RecordedOf) → AreRecorded marks calls → WitnessFaultAt (grants_declared declared) calls turns at kind → ⊥
   never_faulty at kind calls are fault =

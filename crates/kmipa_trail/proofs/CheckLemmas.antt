@@ -15,6 +15,7 @@ use Rattle.kmipa_turns.specs.Steps.{StepOf}
 use Rattle.kmipa_turns.specs.declared.recorded.Recorded.{Recorded}
 use Rattle.kmipa_trail.specs.Ordering.{AreFormed, OrderFault}
 use Rattle.kmipa_trail.specs.Orders.{IsOrder}
+use Rattle.kmipa_trail.specs.Owners.{in_sight}
 use Rattle.kmipa_trail.specs.Replays.{AllTakable, TellsRun}
 use Rattle.kmipa_trail.specs.Verdicts.{Checks}
 use Rattle.kmipa_trail.specs.declared.fault.Fault.{Fault}
@@ -56,7 +57,7 @@ order_faults marks declared turns calls Memory are h = tt
 
 -- what the replay tells
 pub run_reported : (marks : List MarkOf) (declared : DeclarationOf) (turns : List TurnOf) (calls : List RecordedOf) (steps : List StepOf) (result : Result Verdict Fault)
-    → AreRecorded marks calls → IsOrder (grants_declared declared) calls turns steps → TellsRun declared steps result → Checks marks declared turns result
+    → AreRecorded marks calls → IsOrder (grants_declared declared) calls turns steps → TellsRun declared (in_sight declared steps) result → Checks marks declared turns result
 run_reported marks declared turns calls steps (Ok (Yes tally)) are o h =
     record { calls = calls; are = are; steps = steps; order = o; placed = h.placed; start = h.start; described = h.described; last = h.last; linked = h.linked; tallied = h.tallied }
 run_reported marks declared turns calls steps (Ok (No refused stamp)) are o h = (calls, are, (steps, o, h))

@@ -7,6 +7,8 @@ pub mod ReplayLemmas
 pub mod OpeningLemmas
 pub mod StepLemmas
 pub mod SumLemmas
+pub mod GatherLemmas
+pub mod OwnersLemmas
 pub mod CheckLemmas
 pub mod RefusedLemmas
 pub mod OneStepLemmas

@@ -155,7 +155,7 @@ module _ (g : GrantsOf) (c : RecordedOf) (t : TurnOf) where
   taken_right request response (read x) stamp taken n kind a fault = read_right g x t a.1.0 a.1.1 kind a.1.2 fault
 
   abbrev made : Option ℤ → TakenOf → ℕ → StepOf
-  made stamp taken n = record { number = c.number; begin = c.begin; end = c.end; stamp = stamp; taken = taken; excepted = n }
+  made stamp taken n = record { number = c.number; client = c.client; begin = c.begin; end = c.end; stamp = stamp; taken = taken; excepted = n }
 
   module _ (s : StepOf) (i : IsStep g c t s) where
     -- whatever its messages and its call are, they are those of the step

@@ -8,7 +8,7 @@ use Rattle.kmipa_ops.specs.declared.why.Why.{Why}
 use Rattle.kmipa_batch.specs.Orders.{order_given}
 use Rattle.kmipa_passed.specs.Leaving.{empty}
 use Rattle.kmipa_aside.specs.Worlds.{WorldOf}
-use Rattle.kmipa_bundle.specs.Bundles.{Bundle, DoesPlace, DoesReadBy, places_taken}
+use Rattle.kmipa_bundle.specs.Bundles.{Bundle, DoesPlace, DoesReadBy, places_taken, sight_on}
 use Rattle.kmipa_bundle.specs.Composing.{DoesDeed}
 use Rattle.kmipa_bundle.specs.Deeds.{ChainOf}
 use Rattle.kmipa_bundle.proofs.ChainLemmas.{chain_split}
@@ -28,8 +28,8 @@ use Rattle.kmipa_trail.proofs.LeadLemmas.{lead_front, lead_less}
 done_up_to : (rules : RulesOf) (c : ReadOf) (order : Option (List ℕ)) (w w' : WorldOf) (count : ℕ) → Bundle rules c order w w' → GoesUpTo rules w c order count
 done_up_to rules c order w w' count b =
     let places = places_taken c order in
-    let P : List PlaceOf → Type 0 = λ ps. ChainOf (DoesPlace rules c.stamp) ps w empty b.last b.held in
-    let s = chain_split (DoesPlace rules c.stamp) w empty (take count places) (drop count places) b.last b.held (subst P (sym (take-append-drop count places)) b.chain) in
+    let P : List PlaceOf → Type 0 = λ ps. ChainOf (DoesPlace (sight_on rules c) c.stamp) ps w empty b.last b.held in
+    let s = chain_split (DoesPlace (sight_on rules c) c.stamp) w empty (take count places) (drop count places) b.last b.held (subst P (sym (take-append-drop count places)) b.chain) in
     record { shaped = λ place judged. b.shaped place; left = s.0; held = s.1; chain = s.2 }
 
 module _ (declared : DeclarationOf) (order : List StepOf) (turn : ℕ) (s : StepOf) (there : slice_get order turn ≡ Some s) (placed : ArePlaced order (length order))

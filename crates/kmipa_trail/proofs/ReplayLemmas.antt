@@ -13,7 +13,7 @@ use Rattle.kmipa_batch.specs.declared.refusal.CallRefusal.TheVariants as refusal
 use Rattle.kmipa_passed.specs.Leaving.{empty}
 use Rattle.kmipa_aside.specs.Explains.{world}
 use Rattle.kmipa_aside.specs.Worlds.{WorldOf}
-use Rattle.kmipa_bundle.specs.Bundles.{DoesPlace, places_taken}
+use Rattle.kmipa_bundle.specs.Bundles.{DoesPlace, places_taken, sight_on}
 use Rattle.kmipa_bundle.specs.Counts.{counts_of}
 use Rattle.kmipa_bundle.specs.Deeds.{ChainOf}
 use Rattle.kmipa_bundle.specs.Refusals.{CallRefuted}
@@ -143,7 +143,7 @@ module _ (declared : DeclarationOf) (order : List StepOf) (n : ℕ) (m : Meaning
         where
           never_from : (w : WorldOf) (choice : Choice) → Chooses m.secrets choice → w ≡ world choice m → GoesUpTo (rules_declared declared) w c (order_given places) (e.count + 1) → ⊥
           never_from w choice h same g =
-              let P : WorldOf → Type 0 = λ x. ChainOf (DoesPlace (rules_declared declared) c.stamp) (take (e.count + 1) (places_taken c (order_given places))) x empty g.left g.held in
+              let P : WorldOf → Type 0 = λ x. ChainOf (DoesPlace (sight_on (rules_declared declared) c) c.stamp) (take (e.count + 1) (places_taken c (order_given places))) x empty g.left g.held in
               e.never (record { shaped = g.shaped; choice = choice; chooses = h; left = g.left; held = g.held; chain = subst P same g.chain })
 
       -- whatever is refused of it

@@ -1,4 +1,6 @@
 pub mod Opening
+pub mod Owners
+pub mod Owning
 pub mod Leading
 pub mod Placing
 pub mod Orders

@@ -4,7 +4,7 @@ use Rattle.kmipa_msgs.specs.Messages.{RulesOf}
 use Rattle.kmipa_batch.specs.Orders.{order_given}
 use Rattle.kmipa_passed.specs.Leaving.{HeldOf, empty}
 use Rattle.kmipa_aside.specs.Worlds.{WorldOf, stand}
-use Rattle.kmipa_bundle.specs.Bundles.{places_taken}
+use Rattle.kmipa_bundle.specs.Bundles.{places_taken, sight_on}
 use Rattle.kmipa_bundle.specs.Composing.{DoesDeed}
 use Rattle.kmipa_bundle.specs.Counts.{CountsOf, CountsAlong, counts_first, no_counts}
 use Rattle.kmipa_places.specs.Calls.{ReadOf}
@@ -34,7 +34,7 @@ counts_unread n = record { request = n.request; answer = n.answer; witness = n.w
 -- by whether the response refuses the whole message: the items of a call that can be read count so, in this world
 abbrev pub CountsRead : Bool → RulesOf → WorldOf → ReadOf → Option (List ℕ) → CountsOf → Type 0
 CountsRead true rules w c order k = k ≡ counts_first rules (stand w) c.places
-CountsRead false rules w c order k = (last : WorldOf) × (held : HeldOf) × CountsAlong rules c.stamp (places_taken c order) w empty no_counts last held k
+CountsRead false rules w c order k = (last : WorldOf) × (held : HeldOf) × CountsAlong (sight_on rules c) c.stamp (places_taken c order) w empty no_counts last held k
 
 abbrev pub CountsTaken : RulesOf → WorldOf → TakenOf → CountsOf → Type 0
 CountsTaken rules w (leaves left n) k = k ≡ counts_unread n

@@ -10,7 +10,7 @@ use Rattle.kmipa_ops.specs.declared.why.Why.TheVariants.{EarlierCallLate, StampR
 use Rattle.kmipa_batch.specs.Orders.{order_given}
 use Rattle.kmipa_passed.specs.Leaving.{HeldOf, empty}
 use Rattle.kmipa_aside.specs.Worlds.{WorldOf}
-use Rattle.kmipa_bundle.specs.Bundles.{DoesPlace, places_taken}
+use Rattle.kmipa_bundle.specs.Bundles.{DoesPlace, places_taken, sight_on}
 use Rattle.kmipa_bundle.specs.Deeds.{ChainOf}
 use Rattle.kmipa_bundle.specs.Refusals.{AreShapedFor, SpeaksAt}
 use Rattle.kmipa_places.specs.Calls.{ReadOf}
@@ -22,6 +22,7 @@ use Rattle.kmipa_turns.specs.Steps.{StepOf, takes}
 use Rattle.kmipa_trail.specs.Opening.{DescribesWorld}
 use Rattle.kmipa_trail.specs.Leading.{Leads, AreKnown}
 use Rattle.kmipa_trail.specs.Orders.{IsOrder, WitnessFaultAt}
+use Rattle.kmipa_trail.specs.Owners.{in_sight}
 use Rattle.kmipa_trail.specs.Placing.{ArePlaced, IsPlacedAt, IsLate, RunsBack}
 use Rattle.kmipa_trail.specs.Tallies.{TallyOf, Tallies, no_tally}
 use Rattle.kmipa_trail.specs.Told.{tally_of}
@@ -32,19 +33,19 @@ use Rattle.kmipa_trail.specs.declared.verdict.Verdict.TheVariants.{Yes, No}
 
 -- ---- yes
 
--- The witness is formed for the calls of the transcript, its steps are placed, and some world that the declaration describes has a run of all calls by
--- these steps, which gives every recorded response that is judged; and so many are.
+-- The witness is formed for the calls of the transcript. Its steps, each with what may be hidden from its client, are placed, and some world that the
+-- declaration describes has a run of all calls by these steps, which gives every recorded response that is judged; and so many are.
 pub record IsAccepted (marks : List MarkOf) (declared : DeclarationOf) (turns : List TurnOf) (tally : TallyOf) : Type 0 where
   pub calls : List RecordedOf
   pub are : AreRecorded marks calls
   pub steps : List StepOf
   pub order : IsOrder (grants_declared declared) calls turns steps
-  pub placed : ArePlaced steps (length steps)
+  pub placed : ArePlaced (in_sight declared steps) (length (in_sight declared steps))
   pub start : WorldOf
   pub described : DescribesWorld declared start
   pub last : WorldOf
-  pub linked : Leads (rules_declared declared) start steps last
-  pub tallied : Tallies (rules_declared declared) start no_tally steps last tally
+  pub linked : Leads (rules_declared declared) start (in_sight declared steps) last
+  pub tallied : Tallies (rules_declared declared) start no_tally (in_sight declared steps) last tally
 
 -- ---- no
 
@@ -61,7 +62,7 @@ pub record GoesUpTo (rules : RulesOf) (w : WorldOf) (c : ReadOf) (order : Option
   pub shaped : AreShapedFor c count
   pub left : WorldOf
   pub held : HeldOf
-  pub chain : ChainOf (DoesPlace rules c.stamp) (take count (places_taken c order)) w empty left held
+  pub chain : ChainOf (DoesPlace (sight_on rules c) c.stamp) (take count (places_taken c order)) w empty left held
 
 -- besides the turns before it, this turn is placed, and the first places of its call are done
 pub record ArePossibleUpTo (declared : DeclarationOf) (order : List StepOf) (turn : ℕ) (s : StepOf) (c : ReadOf) (places : Option (List ℕ)) (count : ℕ) : Type 0 where
@@ -114,7 +115,7 @@ pub record IsRefused (declared : DeclarationOf) (order : List StepOf) (r : Refus
 abbrev pub TellsVerdict : List MarkOf → DeclarationOf → List TurnOf → Verdict → Type 0
 TellsVerdict marks declared turns (Yes tally) = IsAccepted marks declared turns (tally_of tally)
 TellsVerdict marks declared turns (No r stamp) =
-    (calls : List RecordedOf) × AreRecorded marks calls × ((order : List StepOf) × IsOrder (grants_declared declared) calls turns order × IsRefused declared order r stamp)
+    (calls : List RecordedOf) × AreRecorded marks calls × ((order : List StepOf) × IsOrder (grants_declared declared) calls turns order × IsRefused declared (in_sight declared order) r stamp)
 
 -- what a check answers: a verdict; or the fault of the witness
 abbrev pub Checks : List MarkOf → DeclarationOf → List TurnOf → Result Verdict Fault → Type 0

@@ -1,6 +1,6 @@
 //! The check of a witness.
 
-ghost use Rattle.std.specs.Prelude.{◌≡◌, []};
+ghost use Rattle.std.specs.Prelude.{◌≡◌, [], map};
 ghost use Rattle.kmipa_store.specs.Choices.{IsSound};
 ghost use Rattle.kmipa_msgs.specs.Messages.{rules_of};
 ghost use Rattle.kmipa_record.specs.Declarations.{AreDeclared, DeclarationOf, declaration_of};
@@ -10,12 +10,16 @@ ghost use Rattle.kmipa_record.specs.Witnesses.{witness_of};
 ghost use Rattle.kmipa_check.specs.Grants.{grants_declared, grants_of};
 ghost use Rattle.kmipa_check.specs.Runs.{rules_declared};
 ghost use Rattle.kmipa_trail.specs.Leading.{AreKnown};
+ghost use Rattle.kmipa_aside.specs.Sights.{owned_of};
+ghost use Rattle.kmipa_trail.specs.Owners.{owners_at_first};
 ghost use Rattle.kmipa_trail.specs.Verdicts.{Checks};
 
 use crate::fault::Fault;
 use crate::opening::open_world;
 use crate::order::steps_of;
+use crate::owners::owners_at_first;
 use crate::replaying::replay;
+use crate::terms::Terms;
 use crate::verdict::Verdict;
 use kmipa_check::{Grants, rules_of_declaration};
 use kmipa_msgs::Rules;
@@ -42,26 +46,37 @@ pub fn check(
     let grants = Grants::of(declaration);
     let rules = rules_of_declaration(alloc, declaration)?;
     let mut ledger = open_world(alloc, declaration)?;
-    check_opened(alloc, &mut ledger, &rules, &grants, transcript, witness)
+    let owners = owners_at_first(alloc, rules.visibility, &declaration.entries)?;
+    let terms = Terms {
+        rules: &rules,
+        grants: &grants,
+        owners,
+    };
+    check_opened(alloc, &mut ledger, terms, transcript, witness)
 }
 
-/// The same, from a ledger that stands for the worlds that a declaration describes, by its rules and what it grants.
-pub fn check_opened<L: Ledger>(
+/// The same, from a ledger that stands for the worlds that a declaration describes, by its terms.
+pub fn check_opened<'a, L: Ledger>(
     alloc: Global,
     ledger: &mut L,
-    rules: &Rules,
-    grants: &Grants,
-    transcript: &Transcript,
-    witness: &Witness,
+    terms: Terms<'_, '_, 'a>,
+    transcript: &'a Transcript,
+    witness: &'a Witness,
 ) -> Result<Verdict, Fault>
     requires { IsSound (L.state ledger.old).now }
-    ensures { (declared : DeclarationOf) → rules_of rules.now ≡ rules_declared declared
-        → grants_of grants.now ≡ grants_declared declared → AreKnown declared [] (L.state ledger.old).now
-        → AreRecorded (transcript_of transcript.now)
+    ensures { (declared : DeclarationOf) → rules_of terms.entry.rules.now ≡ rules_declared declared
+        → grants_of terms.entry.grants.now ≡ grants_declared declared
+        → map owned_of terms.entry.owners.items ≡ owners_at_first declared.settings.visibility declared.entries
+        → AreKnown declared [] (L.state ledger.old).now → AreRecorded (transcript_of transcript.now)
         → Checks (transcript_of transcript.now) declared (witness_of witness.now) result }
 {
+    let Terms {
+        rules,
+        grants,
+        owners,
+    } = terms;
     let calls = recorded_calls(alloc, transcript)?;
     let steps = steps_of(alloc, grants, &calls, &witness.turns)?;
     step_is_takable();
-    replay(alloc, ledger, rules, &steps)
+    replay(alloc, ledger, rules, owners, &steps)
 }

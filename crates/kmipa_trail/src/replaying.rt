@@ -5,17 +5,21 @@ ghost use Rattle.kmipa_store.specs.Choices.{IsSound};
 ghost use Rattle.kmipa_msgs.specs.Messages.{rules_of};
 ghost use Rattle.kmipa_record.specs.Declarations.{DeclarationOf};
 ghost use Rattle.kmipa_check.specs.Runs.{rules_declared};
+ghost use Rattle.kmipa_aside.specs.Sights.{owned_of};
 ghost use Rattle.kmipa_turns.specs.Steps.{step_of};
 ghost use Rattle.kmipa_trail.specs.Leading.{AreKnown};
+ghost use Rattle.kmipa_trail.specs.Owners.{steps_seen};
 ghost use Rattle.kmipa_trail.specs.Refusing.{refused_by, refused_at};
 ghost use Rattle.kmipa_trail.specs.Replays.{AllTakable, TellsRun, misplaced};
 
 use crate::back::{is_back, later, moment_of};
 use crate::fault::Fault;
 use crate::late::{first_late, is_at};
+use crate::owners::own_births;
 use crate::step::take_step;
 use crate::tally::Tally;
 use crate::verdict::Verdict;
+use kmipa_aside::Owned;
 use kmipa_batch::CallRefusal;
 use kmipa_check::Refused;
 use kmipa_msgs::Rules;
@@ -25,18 +29,21 @@ use kmipa_turns::Step;
 use std::alloc::Global;
 
 /// Takes the steps one after the other: whether all are possible, and how many items are judged; or the first that isn't, the item and the lowest
-/// reason.
-pub fn replay<L: Ledger>(
+/// reason. It is told whose the objects are at first, and goes along with them.
+pub fn replay<'a, L: Ledger>(
     alloc: Global,
     ledger: &mut L,
     rules: &Rules,
-    steps: &[Step],
+    owners: Vec<Owned<'a>>,
+    steps: &[Step<'a>],
 ) -> Result<Verdict, Fault>
     requires sound { IsSound (L.state ledger.old).now }
     requires takable { AllTakable (map step_of steps.now) }
     ensures { (declared : DeclarationOf) → rules_of rules.now ≡ rules_declared declared
-        → AreKnown declared [] (L.state ledger.old).now → TellsRun declared (map step_of steps.now) result }
+        → AreKnown declared [] (L.state ledger.old).now → TellsRun declared
+        (steps_seen rules.now.visibility (map owned_of owners.entry.items) (map step_of steps.now)) result }
 {
+    let mut owners = owners;
     let late = first_late(steps);
     let mut tally = Tally::new();
     let mut last = None;
@@ -48,7 +55,8 @@ pub fn replay<L: Ledger>(
             Some(why) => return Ok(refused_turn(turn, step, 0, why)),
             None => {}
         }
-        match take_step(alloc, ledger, rules, step) {
+        own_births(alloc, rules.visibility, &mut owners, step)?;
+        match take_step(alloc, ledger, rules, owners.as_slice(), step) {
             Ok(counts) => tally = tally.with(counts, step.excepted),
             Err(refusal) => return refused_step(turn, step, refusal),
         }

@@ -1,19 +1,23 @@
 //! What a step takes.
 
-ghost use Rattle.std.specs.Prelude.{◌≡◌, option_map};
+ghost use Rattle.std.specs.Prelude.{◌≡◌, map, option_map};
 ghost use Rattle.kmipa_store.specs.Choices.{IsSound};
 ghost use Rattle.kmipa_msgs.specs.Messages.{RulesOf, maybe_lent, rules_of};
 ghost use Rattle.kmipa_record.specs.Entries.{items_of};
 ghost use Rattle.kmipa_passed.specs.Leaving.{aside_of};
+ghost use Rattle.kmipa_bundle.specs.Bundles.{call_seen};
 ghost use Rattle.kmipa_bundle.specs.Counts.{counts_of};
 ghost use Rattle.kmipa_places.specs.Calls.{read_of};
 ghost use Rattle.kmipa_turns.specs.Steps.{step_of, leaves, takes};
 ghost use Rattle.kmipa_places.specs.Counting.{unread_counts_of};
 ghost use Rattle.kmipa_turns.specs.Laws.{IsTakable};
+ghost use Rattle.kmipa_aside.specs.Sights.{owned_of};
+ghost use Rattle.kmipa_trail.specs.Owners.{identity, step_seen};
 ghost use Rattle.kmipa_trail.specs.Replays.{StepTaken};
 ghost use Rattle.kmipa_trail.specs.Tallies.{counts_unread};
 
-use kmipa_aside::take_unread;
+use crate::owners::identity;
+use kmipa_aside::{Owned, Sight, take_unread};
 use kmipa_batch::CallRefusal;
 use kmipa_bundle::{Counts, take_call};
 use kmipa_msgs::Rules;
@@ -24,20 +28,25 @@ use kmipa_turns::{Step, Taken};
 use std::alloc::Global;
 
 /// Takes what a step takes, and answers how its items count: a call that can be read; or what one leaves that can't be, which is the same at
-/// any moment. Where it is impossible, its first impossible item is reported with the lowest reason.
+/// any moment. Where it is impossible, its first impossible item is reported with the lowest reason. It is told whose the objects are behind the step.
 pub(crate) fn take_step<L: Ledger>(
     alloc: Global,
     ledger: &mut L,
     rules: &Rules,
+    owners: &[Owned],
     step: &Step,
 ) -> Result<Counts, CallRefusal>
     requires sound { IsSound (L.state ledger.old).now }
     requires takable { IsTakable (step_of step.now).taken }
-    ensures { StepTaken (rules_of rules.now) (L.state ledger.old) (step_of step.now).taken result (L.state ledger.new) }
+    ensures { StepTaken (rules_of rules.now) (L.state ledger.old) (step_seen (map owned_of owners.now) (step_of step.now)).taken
+        result (L.state ledger.new) }
 {
     match &step.taken {
         Taken::Leaves(left, counts) => take_left(alloc, ledger, left, counts),
-        Taken::Takes(call, places) => take_read(alloc, ledger, rules, call, places),
+        Taken::Takes(call, places) => {
+            let sight = sight_of(rules, owners, step.client);
+            take_read(alloc, ledger, sight, call, places)
+        }
     }
 }
 
@@ -75,16 +84,29 @@ fn counts_of(counts: &UnreadCounts) -> Counts
 fn take_read<'p, L: Ledger>(
     alloc: Global,
     ledger: &mut L,
-    rules: &Rules,
+    sight: Sight<'_, 'p>,
     call: &'p Readable<'p>,
     places: &Option<Vec<usize>>,
 ) -> Result<Counts, CallRefusal>
     requires sound { IsSound (L.state ledger.old).now }
     requires takable { IsTakable (takes (read_of call.now) (option_map items_of places.now)) }
-    ensures { StepTaken (rules_of rules.now) (L.state ledger.old) (takes (read_of call.now) (option_map items_of places.now))
-        result (L.state ledger.new) }
+    ensures { StepTaken (rules_of sight.entry.rules.now) (L.state ledger.old)
+        (takes (call_seen sight.entry call.now) (option_map items_of places.now)) result (L.state ledger.new) }
 {
-    take_call(alloc, ledger, rules, call, lent(places))
+    take_call(alloc, ledger, sight, call, lent(places))
+}
+
+/// By what a call of this client is judged.
+pub fn sight_of<'r, 'p>(rules: &'r Rules, owners: &'p [Owned<'p>], client: &'p str) -> Sight<'r, 'p>
+    ensures rules { result.rules.now ≡ rules.now }
+    ensures me { result.me.now ≡ identity client.now }
+    ensures owners { result.owners.now ≡ owners.now }
+{
+    Sight {
+        rules,
+        me: identity(client),
+        owners,
+    }
 }
 
 /// The places that are given.
