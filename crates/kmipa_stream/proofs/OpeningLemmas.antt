@@ -1,5 +1,6 @@
 -- The ledger that a declaration opens while it is read.
-use Rattle.std.proofs.Common.{◌≡◌, ◌≢◌, ◌<◌, ◌≤◌, ℕ, List, [], ◌∷◌, ◌++◌, map, length, take, get_or, true, false, bytes_eq, is_some, ℤ, Bool, not, nat_lt, ◌||◌, refl, Ok, Option, Some, None, slice_get, sym, ap, ◌∙◌, subst, arith}
+use Rattle.std.proofs.Common.{◌≡◌, ◌≢◌, ◌<◌, ◌≤◌, ℕ, List, [], ◌∷◌, ◌++◌, map, length, take, get_or, true, false, bytes_eq, is_some, ℤ, Bool, not, nat_lt, ◌||◌, refl, Ok, Option, Some, None, option_map, String, string_bytes, slice_get, sym, ap, ◌∙◌, subst, arith}
+use Rattle.std.specs.Global.{Global}
 use Rattle.std.specs.Prelude.{All, Any}
 use Rattle.std.proofs.lemmas.Bool.{ltb-false, ltb-true, or_parts}
 use Rattle.std.proofs.lemmas.List.{length-map, take_all}
@@ -9,7 +10,7 @@ use Rattle.kmipa_msgs.specs.Messages.{RowOf, RulesOf, row_of}
 use Rattle.kmipa_object.specs.Inventory.{Card, place_of}
 use Rattle.kmipa_store.specs.Aside.{AsideOf, Entry, is_any_aside, is_any_named, is_named_aside, said_aside, says}
 use Rattle.kmipa_store.specs.Calls.{SetsAside}
-use Rattle.kmipa_store.specs.Ledger.{Held, LedgerState, Meaning, cards_of}
+use Rattle.kmipa_store.specs.Ledger.{Held, LedgerState, Meaning, cards_of, changed}
 use Rattle.kmipa_store.specs.States.{state_of_journal}
 use Rattle.kmipa_store.proofs.InventoryLemmas.{place_found, place_none}
 use Rattle.kmipa_store.proofs.SoundLemmas.{sound_aside}
@@ -27,7 +28,7 @@ use Rattle.kmipa_check.proofs.OpeningLemmas.{opened_known, opened_more}
 use Rattle.kmipa_check.proofs.PlaceLemmas.{mapped_at, mapped_from}
 use Rattle.kmipa_record.specs.Taking.{TakesAll}
 use Rattle.kmipa_record.specs.declared.reach.Reach.{Reach}
-use Rattle.kmipa_stream.specs.Opening.{Opens, IsOpened, has_objects, is_used}
+use Rattle.kmipa_stream.specs.Opening.{Opens, IsOpened, has_objects, is_used, owners_of}
 use Rattle.kmipa_stream.proofs.EachAsideLemmas.{each_aside_more, none_said, said_at, said_from}
 use Rattle.kmipa_stream.specs.declared.opening.Opening.{Opening}
 
@@ -161,11 +162,35 @@ declared_aside : (destroyed : Option ℤ) (m : Meaning) (e : EntryOf) → (with_
 declared_aside None m e = refl
 declared_aside (Some date) m e = refl
 
+-- whose the object of an entry is, is no matter of whether it may be declared, nor of what it opens
+abbrev pub ownerless : EntryOf → EntryOf
+ownerless e = record { id = e.id; kind = e.kind; attributes = e.attributes; bytes = e.bytes; owner = None }
+
+pub ownerless_may : (e : EntryOf) → IsDeclarable e → IsDeclarable (ownerless e)
+ownerless_may e may = record { gone = may.gone; whole = may.whole; fitting = may.fitting; small = may.small }
+
+declared_ownerless : (destroyed : Option ℤ) (m : Meaning) (e : EntryOf) → with_declared_at destroyed m (ownerless e) ≡ with_declared_at destroyed m e
+declared_ownerless None m e = refl
+declared_ownerless (Some date) m e = refl
+
+declares_ownerless : (s : LedgerState) (e : EntryOf) (t : LedgerState) → Declares s (ownerless e) (Ok tt) t → Declares s e (Ok tt) t
+declares_ownerless s e t declares = declares ∙ ap (λ (m : Meaning). changed s m) (declared_ownerless e.attributes.destroy s.now e)
+
+owners_more : (es : List EntryOf) (e : EntryOf) → owners_of (es ++ e ∷ []) ≡ owners_of es ++ e.owner ∷ []
+owners_more [] e = refl
+owners_more (x ∷ es) e = ap (λ (l : List (Option (List ℕ))). x.owner ∷ l) (owners_more es e)
+
+owner_pushed : (os : List (Option (String Global))) (o : Option (String Global)) → map (option_map string_bytes) (os ++ o ∷ []) ≡ map (option_map string_bytes) os ++ option_map string_bytes o ∷ []
+owner_pushed [] o = refl
+owner_pushed (x ∷ os) o = ap (λ (l : List (Option (List ℕ))). option_map string_bytes x ∷ l) (owner_pushed os o)
+
 -- one entry more
 pub opens_entry : (old new : Opening) (d : DeclarationOf) (e : EntryOf) → Opens old d → IsDeclarable e → is_used (state_of_journal old.ledger).now e.id ≡ false → new.rows.items ≡ old.rows.items
-    → new.allow_lines.items ≡ old.allow_lines.items → new.own_attributes.items ≡ old.own_attributes.items → Declares (state_of_journal old.ledger) e (Ok tt) (state_of_journal new.ledger) → MayFollow d (entry e) × Opens new (with_record d (entry e))
-opens_entry old new d e o may unused rows lines attributes declares =
+    → new.allow_lines.items ≡ old.allow_lines.items → new.own_attributes.items ≡ old.own_attributes.items → (owner : Option (String Global)) → option_map string_bytes owner ≡ e.owner → new.owners.items ≡ old.owners.items ++ owner ∷ []
+    → Declares (state_of_journal old.ledger) (ownerless e) (Ok tt) (state_of_journal new.ledger) → MayFollow d (entry e) × Opens new (with_record d (entry e))
+opens_entry old new d e o may unused rows lines attributes owner told owners ownerless_declares =
     let s = state_of_journal old.ledger in
+    let declares = declares_ownerless s e (state_of_journal new.ledger) ownerless_declares in
     let free = unused_new old d o e.id unused in
     let P : LedgerState → Type 0 = λ t. Opened (d.entries ++ e ∷ []) t.now in (
       free.1,
@@ -175,13 +200,16 @@ opens_entry old new d e o may unused rows lines attributes declares =
         rows = ap (map row_of) rows ∙ o.rows;
         lines = lines ∙ o.lines;
         own = attributes ∙ o.own;
+        owners =
+            ap (map (option_map string_bytes)) owners ∙ owner_pushed old.owners.items owner ∙ ap (λ (l : List (Option (List ℕ))). l ++ option_map string_bytes owner ∷ []) o.owners
+            ∙ ap (λ (x : Option (List ℕ)). owners_of d.entries ++ x ∷ []) told ∙ sym (owners_more d.entries e);
       },
     )
 
 -- one identifier more that is set aside
 pub opens_aside : (old new : Opening) (d : DeclarationOf) (id : List ℕ) → Opens old d → is_used (state_of_journal old.ledger).now id ≡ false → new.rows.items ≡ old.rows.items
-    → new.allow_lines.items ≡ old.allow_lines.items → new.own_attributes.items ≡ old.own_attributes.items → SetsAside (state_of_journal old.ledger) id (Ok tt) (state_of_journal new.ledger) → MayFollow d (aside id) × Opens new (with_record d (aside id))
-opens_aside old new d id o unused rows lines attributes sets =
+    → new.allow_lines.items ≡ old.allow_lines.items → new.own_attributes.items ≡ old.own_attributes.items → new.owners.items ≡ old.owners.items → SetsAside (state_of_journal old.ledger) id (Ok tt) (state_of_journal new.ledger) → MayFollow d (aside id) × Opens new (with_record d (aside id))
+opens_aside old new d id o unused rows lines attributes owners sets =
     let s = state_of_journal old.ledger in
     let P : LedgerState → Type 0 = λ t. Opened d.entries t.now in
     let more : AsideOf → AsideOf = λ a. record { ids = said_aside a.ids id; rest = a.rest; over = a.over } in (
@@ -192,6 +220,7 @@ opens_aside old new d id o unused rows lines attributes sets =
         rows = ap (map row_of) rows ∙ o.rows;
         lines = lines ∙ o.lines;
         own = attributes ∙ o.own;
+        owners = ap (map (option_map string_bytes)) owners ∙ o.owners;
       },
     )
 

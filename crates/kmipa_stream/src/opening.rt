@@ -34,6 +34,8 @@ pub struct Opening {
     pub allow_lines: Vec<AllowLine>,
     /// The attributes that the server itself may give an object at birth.
     pub own_attributes: Vec<OwnAttribute>,
+    /// The owner of each object, in the order of the entries, where it has one.
+    pub owners: Vec<Option<String>>,
 }
 
 impl Opening {
@@ -54,6 +56,7 @@ impl Opening {
             rows: Vec::new(alloc),
             allow_lines: Vec::new(alloc),
             own_attributes: Vec::new(alloc),
+            owners: Vec::new(alloc),
         }
     }
 
@@ -130,7 +133,24 @@ impl Opening {
         if is_used(&self.ledger, entry.id.as_str()) {
             return Err(RecordKind::Identifier);
         }
-        match declare(&mut self.ledger, entry) {
+        let Entry {
+            id,
+            kind,
+            attrs,
+            bytes,
+            owner,
+        } = entry;
+        let Ok(()) = self.owners.push(owner) else {
+            return Err(RecordKind::Memory);
+        };
+        let ownerless = Entry {
+            id,
+            kind,
+            attrs,
+            bytes,
+            owner: None,
+        };
+        match declare(&mut self.ledger, ownerless) {
             Ok(()) => Ok(()),
             Err(_) => Err(RecordKind::Memory),
         }

@@ -7,4 +7,4 @@ returns-then-is_used c = λ declared o. inr (refl, used_not_new c.args.self.now 
 
 pub returns-in-Ok : goal.returns-in-Ok
 returns-in-Ok c = λ declared o.
-    opens_aside c.args.self.now (record { ledger = c.set_aside.new.self; rows = c.args.self.now.rows; allow_lines = c.args.self.now.allow_lines; own_attributes = c.args.self.now.own_attributes }) declared c.args.id.now o (sym c.is_used.ensures ∙ c.if-is_used.false) refl refl refl c.in-Ok.ensures.meaning
+    opens_aside c.args.self.now (record { ledger = c.set_aside.new.self; rows = c.args.self.now.rows; allow_lines = c.args.self.now.allow_lines; own_attributes = c.args.self.now.own_attributes; owners = c.args.self.now.owners }) declared c.args.id.now o (sym c.is_used.ensures ∙ c.if-is_used.false) refl refl refl refl c.in-Ok.ensures.meaning
