@@ -2,3 +2,4 @@ pub mod DeclaredLemmas
 pub mod ReachLemmas
 pub mod AuditLemmas
 pub mod StatusLemmas
+pub mod OwnersLemmas

@@ -1,9 +1,11 @@
 -- A declaration that sets nothing aside, read as far as those are read that do.
-use Rattle.std.proofs.Common.{◌≡◌, ◌≢◌, ℕ, List, [], ◌∷◌, refl, sym, ap, ◌∙◌}
+use Rattle.std.proofs.Common.{◌≡◌, ◌≢◌, inl, inr, ℕ, List, [], ◌∷◌, refl, sym, ap, ◌∙◌}
 use Rattle.kmipa_ttlv.specs.Tree.{Tree}
 use Rattle.kmipa_msgs.specs.declared.rules.Unjudged.TheVariants.{Refused, Unknown}
+use Rattle.kmipa_msgs.specs.declared.rules.Visibility.TheVariants.{Everyone}
 use Rattle.kmipa_record.specs.DeclarationRecords.{RecordOf, row, allow, own, entry, aside}
 use Rattle.kmipa_record.specs.Declarations.{Admits, DeclarationOf, Follow, IsDeclarationWithin, IsHeader, IsRecordUnder, SayDeclaration, nothing_declared, with_record}
+use Rattle.kmipa_record.specs.Reaches.{HasSight}
 use Rattle.kmipa_record.specs.Taking.{HasTaken}
 use Rattle.kmipa_record.specs.declared.declaration_header.DeclarationHeader.{DeclarationHeader}
 use Rattle.kmipa_record.specs.declared.reach.Reach.{Reach}
@@ -17,6 +19,11 @@ settings_stay : (reach : Reach) (h : DeclarationHeader) (ahead : DeclarationOf) 
     → declared.settings ≡ ahead.settings
 settings_stay reach h ahead [] declared follow = ap (λ (d : DeclarationOf). d.settings) (sym follow)
 settings_stay reach h ahead (item ∷ items) declared follow = settings_stay reach h (with_record ahead follow.0) items declared follow.3
+
+-- it lets every client see every object
+all_seen : (s : Settings) → s.unjudged ≡ Refused → HasSight s → s.visibility ≡ Everyone
+all_seen s refused (inl e) = e
+all_seen s refused (inr h) = absurd (h refused)
 
 module _ (h : DeclarationHeader) (refused : h.settings.unjudged ≡ Refused) where
   admits_less : (r : RecordOf) → Admits Aside h r → Admits Judged h r
@@ -35,7 +42,7 @@ module _ (h : DeclarationHeader) (refused : h.settings.unjudged ≡ Refused) whe
       (follow.0, record_less item follow.0 follow.1, follow.2, follow_less (with_record ahead follow.0) items declared follow.3)
 
   header_less : (item : Tree) → IsHeader Aside item h → IsHeader Judged item h
-  header_less item i = record { is = i.is; may = i.may; reached = (λ same. let clash : Refused ≡ Unknown = sym refused ∙ same in absurd cc, i.reached) }
+  header_less item i = record { is = i.is; may = i.may; reached = (λ same. let clash : Refused ≡ Unknown = sym refused ∙ same in absurd cc, all_seen h.settings refused i.reached) }
 
 within_less : (bytes : List ℕ) (declared : DeclarationOf) → declared.settings.unjudged ≡ Refused → IsDeclarationWithin Aside bytes declared → IsDeclarationWithin Judged bytes declared
 within_less bytes declared refused w =

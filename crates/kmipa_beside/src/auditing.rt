@@ -15,10 +15,11 @@ ghost use Rattle.kmipa_trail.specs.Verdicts.{Checks};
 ghost use Rattle.kmipa_beside.specs.Audits.{Audits, fault_of, verdict_alone};
 
 use crate::declared::Declared;
+use crate::owners::{owners_at_first, owners_named};
 use kmipa_check::{AuditFault, CheckFault, Grants};
 use kmipa_record::{Head, Transcript, Witness, read_transcript, read_witness};
 use kmipa_stream::{Opening, rules_with};
-use kmipa_trail::{Fault, Verdict, check_opened, set_rest_aside};
+use kmipa_trail::{Fault, Terms, Verdict, check_opened, set_rest_aside};
 use kmipa_ttlv::Input;
 use std::alloc::Global;
 use std::io::Read;
@@ -83,14 +84,22 @@ fn check_declared(
         rows,
         allow_lines,
         own_attributes,
+        owners,
     } = opening;
     let rules = rules_with(alloc, settings, rows, allow_lines)?;
     let grants = Grants {
         tolerance: settings.tolerance,
         own: own_attributes.as_slice(),
     };
+    let named = owners_named(alloc, &ledger, &owners)?;
+    let owners = owners_at_first(alloc, settings.visibility, &named)?;
     set_rest_aside(&mut ledger, settings.unjudged);
-    check_opened(alloc, &mut ledger, &rules, &grants, transcript, witness)
+    let terms = Terms {
+        rules: &rules,
+        grants: &grants,
+        owners,
+    };
+    check_opened(alloc, &mut ledger, terms, transcript, witness)
 }
 
 /// The fault of a check, as one of any check.

@@ -4,6 +4,8 @@
 mod auditing;
 mod declared;
 mod lines;
+mod named;
+mod owners;
 mod running;
 
 pub use lines::{judged_line, stamp_line};
