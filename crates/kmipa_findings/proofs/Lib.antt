@@ -4,3 +4,4 @@ pub mod PrefixLemmas
 pub mod ForcedLemmas
 pub mod UnexplainedLemmas
 pub mod ScanLemmas
+pub mod SightLemmas

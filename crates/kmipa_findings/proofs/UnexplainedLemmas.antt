@@ -12,6 +12,7 @@ use Rattle.kmipa_check.proofs.PlaceLemmas.{at_contains}
 use Rattle.kmipa_turns.specs.Recorded.{RecordedOf, AreRecorded, IsRecorded}
 use Rattle.kmipa_turns.specs.Steps.{StepOf}
 use Rattle.kmipa_trail.specs.Orders.{IsOrder}
+use Rattle.kmipa_trail.specs.Owners.{in_sight}
 use Rattle.kmipa_trail.specs.Verdicts.{IsRefused}
 use Rattle.kmipa_trail.proofs.RefusedLemmas.{refused_is_never_lem}
 use Rattle.kmipa_trail.proofs.SameCallsLemmas.{numbered_once, same_calls}
@@ -20,6 +21,7 @@ use Rattle.kmipa_findings.specs.Findings.{AreFound, FindingOf, IsNo, IsUnexplain
 use Rattle.kmipa_findings.specs.Forced.{IsForced}
 use Rattle.kmipa_findings.proofs.ForcedLemmas.{answered, begins_as}
 use Rattle.kmipa_findings.proofs.PrefixLemmas.{refused_too}
+use Rattle.kmipa_findings.proofs.SightLemmas.{raw_placed, seen_begins}
 
 recorded_of : (marks : List MarkOf) (calls : List RecordedOf) (c : RecordedOf) → AreRecorded marks calls → Contains calls c → IsRecorded marks c
 recorded_of marks calls c are has =
@@ -37,11 +39,13 @@ unexplained marks declared turns r stamp calls order right are nothing timely o 
     let other = subst P (same_calls marks right a.calls calls a.are are) a.order in
     let Q : List RecordedOf → Type 0 = λ cs. IsOrder g cs turns told.order in
     let formed = subst Q (same_calls marks right told.calls calls told.are are) told.formed in
-    let R : List StepOf → Type 0 = λ steps. IsRefused declared steps r stamp in
-    let refused : IsRefused declared order r stamp = subst R (one_order_lem g calls turns told.order order once formed o) told.refused in
-    let same = begins_as g nothing calls once (λ c end has ended. answered marks c end (recorded_of marks calls c are has).ended ended) turns order o r.turn forced others a.steps other aside a.placed
+    let R : List StepOf → Type 0 = λ steps. IsRefused declared (in_sight declared steps) r stamp in
+    let refused : IsRefused declared (in_sight declared order) r stamp = subst R (one_order_lem g calls turns told.order order once formed o) told.refused in
+    let same = begins_as g nothing calls once (λ c end has ended. answered marks c end (recorded_of marks calls c are has).ended ended) turns order o r.turn forced others a.steps other aside
+    (raw_placed declared a.steps a.placed)
     (suc refused.turn) (let reported = refused.reported in omega (arith, reported)) in
-    refused_is_never_lem declared a.steps r stamp a.start a.last (refused_too declared order a.steps r stamp refused same a.placed timely) a.placed a.described a.linked
+    refused_is_never_lem declared (in_sight declared a.steps) r stamp a.start a.last
+    (refused_too declared (in_sight declared order) (in_sight declared a.steps) r stamp refused (seen_begins declared a.steps order (suc refused.turn) same) a.placed timely) a.placed a.described a.linked
 
 -- the first finding is the no that is answered where all are left out
 pub first_no : (marks : List MarkOf) (declared : DeclarationOf) (turns : List TurnOf) (findings : List FindingOf) (f : FindingOf) → slice_get findings 0 ≡ Some f → AreFound marks declared turns findings

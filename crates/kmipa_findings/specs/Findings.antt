@@ -5,6 +5,7 @@ use Rattle.kmipa_record.specs.Marks.{MarkOf}
 use Rattle.kmipa_record.specs.Witnesses.{TurnOf}
 use Rattle.kmipa_check.specs.declared.verdict.Refused.{Refused}
 use Rattle.kmipa_trail.specs.Orders.{IsOrder}
+use Rattle.kmipa_trail.specs.Owners.{in_sight}
 use Rattle.kmipa_trail.specs.Tallies.{TallyOf}
 use Rattle.kmipa_trail.specs.Verdicts.{IsAccepted, IsRefused}
 use Rattle.kmipa_turns.specs.Recorded.{RecordedOf, AreRecorded}
@@ -30,7 +31,7 @@ pub record IsNo (marks : List MarkOf) (declared : DeclarationOf) (turns : List T
   pub are : AreRecorded marks calls
   pub order : List StepOf
   pub formed : IsOrder (grants_declared declared) calls turns order
-  pub refused : IsRefused declared order r stamp
+  pub refused : IsRefused declared (in_sight declared order) r stamp
 
 -- each finding is the no that is answered where it and all later ones are left out
 abbrev pub AreFound : List MarkOf → DeclarationOf → List TurnOf → List FindingOf → Type 0

@@ -8,6 +8,7 @@ ghost use Rattle.kmipa_record.specs.Transcripts.{transcript_of};
 ghost use Rattle.kmipa_findings.specs.Outcomes.{Judges};
 ghost use Rattle.kmipa_findings.specs.Trying.{IsTakableStep};
 
+use crate::basis::{Basis, owners_along};
 use crate::calls::step_of;
 use crate::copying::copied_turn;
 use crate::finding::Outcome;
@@ -18,13 +19,12 @@ use crate::ranking::moment_of;
 use crate::setting::{Found, Impossible, Settled, take_partly};
 use crate::trying::{Advance, try_over};
 use kmipa_check::{FirstPlaces, Grants, rules_of_declaration};
-use kmipa_msgs::Rules;
 use kmipa_ops::Why;
 use kmipa_record::{Declaration, Transcript, Turn};
 use kmipa_store::Ledger;
 use kmipa_trail::{Fault, open_world};
 use kmipa_turns::{Recorded, Step, recorded_calls};
-use std::alloc::Global;
+use std::alloc::{AllocError, Global};
 
 /// What comes of an order of the calls that was found with so many steps: its turns are taken one after the other, and what is impossible where it stands is
 /// set aside. None where they can't be taken so, or what is found can't be confirmed by a check.
@@ -57,13 +57,31 @@ fn propose_along(
     requires { AreDeclared (declaration_of declaration.now) }
     ensures { IfOk result (λ p. p.over ≡ None) }
 {
-    let calls = recorded_calls(alloc, transcript)?;
+    let recorded = recorded_calls(alloc, transcript)?;
+    let calls = calls_along(alloc, &recorded, turns)?;
+    propose_by(alloc, declaration, &calls, turns, steps)
+}
+
+/// The same of these calls, each at the place of its turn.
+fn propose_by<'a>(
+    alloc: Global,
+    declaration: &'a Declaration,
+    calls: &[Option<Recorded<'a>>],
+    turns: &'a [Turn],
+    steps: u64,
+) -> Result<Proposal, Fault>
+    requires { AreDeclared (declaration_of declaration.now) }
+    ensures { IfOk result (λ p. p.over ≡ None) }
+{
+    let owners = owners_along(alloc, declaration, calls, turns)?;
     let rules = rules_of_declaration(alloc, declaration)?;
     let mut ledger = open_world(alloc, declaration)?;
     let way = Way {
-        rules: &rules,
+        basis: Basis {
+            rules: &rules,
+            owners: &owners,
+        },
         grants: Grants::of(declaration),
-        calls: &calls,
     };
     let mut along = Along {
         found: Found {
@@ -72,18 +90,31 @@ fn propose_along(
         },
         last: None,
     };
-    if !follow(alloc, &mut ledger, way, turns, &mut along)? {
+    if !follow(alloc, &mut ledger, way, calls, turns, &mut along)? {
         return Ok(nothing(alloc));
     }
     Ok(proposed(along, steps))
 }
 
-/// The rules of a server, what it is granted, and the recorded calls.
+/// The calls that turns name, each at the place of its turn; none where one names none.
+fn calls_along<'a>(
+    alloc: Global,
+    recorded: &[Recorded<'a>],
+    turns: &[Turn],
+) -> Result<Vec<Option<Recorded<'a>>>, AllocError> {
+    let places = FirstPlaces::of(alloc, recorded)?;
+    let mut calls = Vec::with_capacity(alloc, turns.len())?;
+    'turns: for turn in turns {
+        calls.push(call_of(recorded, &places, turn))?;
+    }
+    Ok(calls)
+}
+
+/// By what is judged along an order, and what the server is granted.
 #[derive(Clone, Copy)]
-struct Way<'r, 'g, 'c, 'a> {
-    rules: &'r Rules,
+struct Way<'r, 'o, 'g> {
+    basis: Basis<'r, 'o>,
     grants: Grants<'g>,
-    calls: &'c [Recorded<'a>],
 }
 
 /// What was found so far, and the last moment.
@@ -107,19 +138,19 @@ fn proposed(along: Along, steps: u64) -> Proposal
     }
 }
 
-/// Takes these turns, one after the other. Whether each fits its call.
+/// Takes these turns, one after the other. Whether each has a call, and fits it.
 fn follow<L: Ledger>(
     alloc: Global,
     ledger: &mut L,
     way: Way,
+    calls: &[Option<Recorded>],
     turns: &[Turn],
     along: &mut Along,
 ) -> Result<bool, Fault>
     requires { IsSound (L.state ledger.old).now }
 {
-    let places = FirstPlaces::of(alloc, way.calls)?;
-    'turns: for turn in turns {
-        let Some(call) = call_of(way.calls, &places, turn) else {
+    'turns: for (call, turn) in calls.iter().zip(turns.iter()) {
+        let Some(call) = call else {
             return Ok(false);
         };
         if !take_turn(alloc, ledger, way, call, turn, along)? {
@@ -130,13 +161,12 @@ fn follow<L: Ledger>(
 }
 
 /// The call that a turn names.
-fn call_of<'c, 'a>(
-    calls: &'c [Recorded<'a>],
-    places: &FirstPlaces,
-    turn: &Turn,
-) -> Option<&'c Recorded<'a>> {
+fn call_of<'a>(calls: &[Recorded<'a>], places: &FirstPlaces, turn: &Turn) -> Option<Recorded<'a>> {
     let place = places.place(turn.call)?;
-    calls.get(place)
+    match calls.get(place) {
+        Some(call) => Some(*call),
+        None => None,
+    }
 }
 
 /// Takes the call of a turn, with what is impossible of it set aside. Whether the turn fits the call.
@@ -154,7 +184,7 @@ fn take_turn<L: Ledger>(
     let Some(step) = step_of(alloc, &way.grants, call, turn)? else {
         return Ok(false);
     };
-    match advance(alloc, ledger, way.rules, &step, along.last)? {
+    match advance(alloc, ledger, way.basis, &step, along.last)? {
         Advance::Taken(_) => {
             along.last = later(along.last, moment_of(&step));
             along.found.turns.push(copied_turn(alloc, turn)?)?;
@@ -162,7 +192,7 @@ fn take_turn<L: Ledger>(
         }
         Advance::Refused(item, why) => {
             let impossible = Impossible {
-                rules: way.rules,
+                basis: way.basis,
                 grants: way.grants,
                 call,
                 stamp: step.stamp,
@@ -177,7 +207,7 @@ fn take_turn<L: Ledger>(
 fn advance<L: Ledger>(
     alloc: Global,
     ledger: &mut L,
-    rules: &Rules,
+    basis: Basis,
     step: &Step,
     last: Option<i64>,
 ) -> Result<Advance, Fault>
@@ -188,7 +218,7 @@ fn advance<L: Ledger>(
     if runs_back(last, moment_of(step)) {
         return Ok(Advance::Refused(0, Why::StampRunsBack));
     }
-    try_over(alloc, ledger, rules, step)
+    try_over(alloc, ledger, basis, step)
 }
 
 /// Whether a moment, where there is one, is before the last one.

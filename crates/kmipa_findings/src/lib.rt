@@ -2,6 +2,7 @@
 #![tactic(auto)]
 
 mod along;
+mod basis;
 mod calls;
 mod confirming;
 mod copying;

@@ -5,6 +5,7 @@ ghost use Rattle.kmipa_store.specs.Choices.{IsSound};
 ghost use Rattle.kmipa_record.specs.Declarations.{AreDeclared, declaration_of};
 ghost use Rattle.kmipa_findings.specs.Trying.{AreTakable};
 
+use crate::basis::{Basis, owners_behind};
 use crate::calls::{bare_turns, ended_calls, spans_of, steps_made};
 use crate::pace::Pace;
 use crate::proposal::Proposal;
@@ -45,7 +46,7 @@ pub(crate) fn propose<P: Pace>(
 /// The same of these calls, of which these are the bare turns.
 fn propose_of<'a, P: Pace>(
     alloc: Global,
-    declaration: &Declaration,
+    declaration: &'a Declaration,
     calls: &[Recorded<'a>],
     turns: &'a [Turn],
     budget: u64,
@@ -61,8 +62,12 @@ fn propose_of<'a, P: Pace>(
     };
     let rules = rules_of_declaration(alloc, declaration)?;
     let mut ledger = open_world(alloc, declaration)?;
+    let owners = owners_behind(alloc, declaration, &steps)?;
     let given = Given {
-        rules: &rules,
+        basis: Basis {
+            rules: &rules,
+            owners: &owners,
+        },
         grants,
         calls,
         steps: &steps,

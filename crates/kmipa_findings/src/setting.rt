@@ -4,6 +4,7 @@ ghost use Rattle.std.specs.Prelude.{IfOk, OnOk};
 ghost use Rattle.kmipa_store.specs.Choices.{IsSound};
 ghost use Rattle.kmipa_findings.specs.Trying.{AreTakable};
 
+use crate::basis::Basis;
 use crate::calls::step_of;
 use crate::copying::copied_turn;
 use crate::finding::Finding;
@@ -11,7 +12,6 @@ use crate::ranking::moment_of;
 use crate::road::{Refusal, Road, Stuck};
 use crate::trying::{Advance, try_over};
 use kmipa_check::{Grants, Refused};
-use kmipa_msgs::Rules;
 use kmipa_ops::Why;
 use kmipa_record::Turn;
 use kmipa_store::Ledger;
@@ -19,10 +19,10 @@ use kmipa_trail::Fault;
 use kmipa_turns::{Recorded, Step};
 use std::alloc::{AllocError, Global};
 
-/// What a search is given: the rules of the server and what it is granted, the calls, and the step that each makes with its bare turn.
+/// What a search is given: by what is judged, what the server is granted, the calls, and the step that each makes with its bare turn.
 #[derive(Clone, Copy)]
-pub(crate) struct Given<'r, 'g, 'c, 'a, 's, 'b> {
-    pub rules: &'r Rules,
+pub(crate) struct Given<'r, 'o, 'g, 'c, 'a, 's, 'b> {
+    pub basis: Basis<'r, 'o>,
     pub grants: Grants<'g>,
     pub calls: &'c [Recorded<'a>],
     pub steps: &'s [Step<'b>],
@@ -73,7 +73,7 @@ fn take_again<L: Ledger>(
     let Some(step) = given.steps.get(place) else {
         return Ok(false);
     };
-    match try_over(alloc, ledger, given.rules, step)? {
+    match try_over(alloc, ledger, given.basis, step)? {
         Advance::Taken(_) => {
             road.settle(place, moment_of(step));
             found.turns.push(Turn::bare(alloc, step.number))?;
@@ -100,7 +100,7 @@ fn take_aside<L: Ledger>(
         return Ok(false);
     };
     let impossible = Impossible {
-        rules: given.rules,
+        basis: given.basis,
         grants: given.grants,
         call,
         stamp: stamp_at(given.steps, place),
@@ -116,8 +116,8 @@ fn take_aside<L: Ledger>(
 
 /// A call that is impossible by its turn: its Time Stamp where it can be read, and the item, counted from 1, with the reason.
 #[derive(Clone, Copy)]
-pub(crate) struct Impossible<'r, 'g, 'c, 'a> {
-    pub rules: &'r Rules,
+pub(crate) struct Impossible<'r, 'o, 'g, 'c, 'a> {
+    pub basis: Basis<'r, 'o>,
     pub grants: Grants<'g>,
     pub call: &'c Recorded<'a>,
     pub stamp: Option<i64>,
@@ -142,7 +142,7 @@ pub(crate) fn take_partly<L: Ledger>(
     ensures { OnOk result (IsSound (L.state ledger.new).now) }
 {
     let Impossible {
-        rules,
+        basis,
         grants,
         call,
         stamp,
@@ -154,7 +154,7 @@ pub(crate) fn take_partly<L: Ledger>(
     'asides: for _ in 0..u64::MAX {
         note(alloc, found, first, &turn, (item, why), stamp)?;
         set_more_aside(&mut turn, item, why)?;
-        match try_turn(alloc, ledger, rules, &grants, call, &turn)? {
+        match try_turn(alloc, ledger, basis, &grants, call, &turn)? {
             Tried::Taken(moment) => {
                 found.turns.push(turn)?;
                 return Ok(Some(Settled { moment }));
@@ -240,7 +240,7 @@ enum Tried {
 fn try_turn<L: Ledger>(
     alloc: Global,
     ledger: &mut L,
-    rules: &Rules,
+    basis: Basis,
     grants: &Grants,
     call: &Recorded,
     turn: &Turn,
@@ -251,7 +251,7 @@ fn try_turn<L: Ledger>(
     let Some(step) = step_of(alloc, grants, call, turn)? else {
         return Ok(Tried::Unfit);
     };
-    match try_over(alloc, ledger, rules, &step)? {
+    match try_over(alloc, ledger, basis, &step)? {
         Advance::Taken(_) => Ok(Tried::Taken(moment_of(&step))),
         Advance::Refused(item, why) => Ok(Tried::Refused(item, why)),
     }

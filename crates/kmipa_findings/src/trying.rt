@@ -10,15 +10,15 @@ ghost use Rattle.kmipa_turns.specs.Laws.{IsTakable};
 ghost use Rattle.kmipa_turns.specs.Steps.{takes};
 ghost use Rattle.kmipa_findings.specs.Trying.{Advances, IsTakableStep, StepTried};
 
-use kmipa_aside::take_unread;
+use crate::basis::Basis;
+use kmipa_aside::{Sight, take_unread};
 use kmipa_batch::CallRefusal;
 use kmipa_bundle::take_call;
-use kmipa_msgs::Rules;
 use kmipa_ops::Why;
 use kmipa_passed::SetAside;
 use kmipa_places::Readable;
 use kmipa_store::{Ledger, Mark};
-use kmipa_trail::Fault;
+use kmipa_trail::{Fault, sight_of};
 use kmipa_turns::{Step, Taken};
 use std::alloc::Global;
 
@@ -35,7 +35,7 @@ pub enum Advance {
 pub(crate) fn try_over<L: Ledger>(
     alloc: Global,
     ledger: &mut L,
-    rules: &Rules,
+    basis: Basis,
     step: &Step,
 ) -> Result<Advance, Fault>
     requires sound { IsSound (L.state ledger.old).now }
@@ -45,7 +45,7 @@ pub(crate) fn try_over<L: Ledger>(
     let Ok(mark) = ledger.mark() else {
         return Err(Fault::Memory);
     };
-    match take_step(alloc, ledger, rules, step) {
+    match take_step(alloc, ledger, basis, step) {
         Ok(()) => {
             let Mark { depth } = mark;
             Ok(Advance::Taken(depth))
@@ -68,11 +68,11 @@ fn not_taken(refusal: CallRefusal) -> Result<Advance, Fault>
 }
 
 /// Takes what a step takes.
-fn take_step<L: Ledger>(
+fn take_step<'p, L: Ledger>(
     alloc: Global,
     ledger: &mut L,
-    rules: &Rules,
-    step: &Step,
+    basis: Basis<'_, 'p>,
+    step: &'p Step<'p>,
 ) -> Result<(), CallRefusal>
     requires sound { IsSound (L.state ledger.old).now }
     requires takable { IsTakableStep step.now }
@@ -80,7 +80,10 @@ fn take_step<L: Ledger>(
 {
     match &step.taken {
         Taken::Leaves(left, _) => take_left(alloc, ledger, left),
-        Taken::Takes(call, places) => take_read(alloc, ledger, rules, call, places),
+        Taken::Takes(call, places) => {
+            let sight = sight_of(basis.rules, basis.owners, step.client);
+            take_read(alloc, ledger, sight, call, places)
+        }
     }
 }
 
@@ -99,7 +102,7 @@ fn take_left<L: Ledger>(alloc: Global, ledger: &mut L, left: &SetAside) -> Resul
 fn take_read<'p, L: Ledger>(
     alloc: Global,
     ledger: &mut L,
-    rules: &Rules,
+    sight: Sight<'_, 'p>,
     call: &'p Readable<'p>,
     places: &Option<Vec<usize>>,
 ) -> Result<(), CallRefusal>
@@ -107,7 +110,7 @@ fn take_read<'p, L: Ledger>(
     requires takable { IsTakable (takes (read_of call.now) (option_map items_of places.now)) }
     ensures { StepTried (L.state ledger.old) result (L.state ledger.new) }
 {
-    match take_call(alloc, ledger, rules, call, lent(places)) {
+    match take_call(alloc, ledger, sight, call, lent(places)) {
         Ok(_) => Ok(()),
         Err(refusal) => Err(refusal),
     }

@@ -5,11 +5,11 @@ ghost use Rattle.kmipa_store.specs.Choices.{IsSound};
 ghost use Rattle.kmipa_findings.specs.Trying.{AreTakable, IsTakableStep};
 ghost use Rattle.kmipa_findings.specs.Walking.{EndsIn, IsWalked};
 
+use crate::basis::Basis;
 use crate::pace::Pace;
 use crate::road::{Refusal, Road, Visit};
 use crate::setting::Given;
 use crate::trying::{Advance, try_over};
-use kmipa_msgs::Rules;
 use kmipa_store::{Ledger, Mark};
 use kmipa_trail::Fault;
 use kmipa_turns::Step;
@@ -81,7 +81,7 @@ pub(crate) fn walk<L: Ledger, P: Pace>(
         road.count();
         pace.step(road.steps, road.held);
         let step = step_at(given.steps, place);
-        try_step(alloc, ledger, given.rules, step, &mut stretch, road)?;
+        try_step(alloc, ledger, given.basis, step, &mut stretch, road)?;
         if road.is_whole() {
             return Ok(Ended::Whole(stretch.path));
         }
@@ -120,7 +120,7 @@ struct Tried<'b, 'a> {
 fn try_step<L: Ledger>(
     alloc: Global,
     ledger: &mut L,
-    rules: &Rules,
+    basis: Basis,
     tried: Option<Tried>,
     stretch: &mut Stretch,
     road: &mut Road,
@@ -132,7 +132,7 @@ fn try_step<L: Ledger>(
     let Some(tried) = tried else {
         return Ok(());
     };
-    match try_over(alloc, ledger, rules, tried.step)? {
+    match try_over(alloc, ledger, basis, tried.step)? {
         Advance::Taken(depth) => {
             stretch.depth = depth;
             road.take(&mut stretch.path, tried.place)?;
