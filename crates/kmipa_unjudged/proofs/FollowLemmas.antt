@@ -1,5 +1,5 @@
 -- What is told along a run, step by step.
-use Rattle.std.proofs.Common.{◌≡◌, ◌≤◌, ℕ, suc, ◌+◌, List, [], ◌∷◌, ◌++◌, length, take, Some, slice_get, refl, sym, ap, ◌∙◌, subst, add-one}
+use Rattle.std.proofs.Common.{◌≡◌, ◌≤◌, ℕ, ℤ, suc, ◌+◌, List, [], ◌∷◌, ◌++◌, length, take, Some, slice_get, refl, sym, ap, ◌∙◌, subst, add-one}
 use Rattle.std.proofs.lemmas.List.{take_all}
 use Rattle.kmipa_object.specs.Inventory.{Card}
 use Rattle.kmipa_store.specs.Ledger.{Meaning, LedgerState}
@@ -10,17 +10,27 @@ use Rattle.kmipa_record.specs.Declarations.{DeclarationOf}
 use Rattle.kmipa_passed.specs.Leaving.{empty}
 use Rattle.kmipa_aside.specs.Becoming.{stand_in}
 use Rattle.kmipa_aside.specs.Explains.{Took, world}
+use Rattle.kmipa_aside.specs.Sights.{OwnedOf, hidden_from}
 use Rattle.kmipa_aside.specs.Standing.{StandOf}
 use Rattle.kmipa_aside.specs.Worlds.{WorldOf, stand}
 use Rattle.kmipa_bundle.specs.Composing.{DoesDeed, TellsDeed}
 use Rattle.kmipa_check.specs.Runs.{rules_declared}
 use Rattle.kmipa_check.proofs.RunLemmas.{take_next}
-use Rattle.kmipa_turns.specs.Steps.{StepOf}
+use Rattle.kmipa_turns.specs.Steps.{StepOf, TakenOf, leaves, takes, taken_hiding}
 use Rattle.kmipa_trail.specs.Leading.{AreKnown, deed_in, deed_of}
+use Rattle.kmipa_trail.specs.Owners.{identity, step_seen}
 use Rattle.kmipa_unjudged.specs.Asides.{AreAside, TellsAlong, told_each}
 use Rattle.kmipa_unjudged.specs.Following.{AreToldAfter}
-use Rattle.kmipa_unjudged.specs.Naming.{named_in}
+use Rattle.kmipa_unjudged.specs.Naming.{named_in, named_taken}
 use Rattle.kmipa_unjudged.specs.Told.{NamedOf}
+
+-- what is hidden from its client changes nothing of what a step names
+named_hiding : (call : ℤ) (hidden : List (List ℕ)) (t : TakenOf) → named_taken call (taken_hiding hidden t) ≡ named_taken call t
+named_hiding call hidden (leaves left counts) = refl
+named_hiding call hidden (takes c places) = refl
+
+pub named_seen : (owners : List OwnedOf) (s : StepOf) → named_in (step_seen owners s) ≡ named_in s
+named_seen owners s = named_hiding s.number (hidden_from (identity s.client) owners) s.taken
 
 -- what is seen of a ledger is seen of each world
 stand_world : (c : Choice) (m : Meaning) → stand (world c m) ≡ stand_in m

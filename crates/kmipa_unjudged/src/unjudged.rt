@@ -32,7 +32,7 @@ pub struct Unjudged<'a> {
 pub fn unjudged_of<'a>(
     alloc: Global,
     transcript: &'a Transcript,
-    declaration: &Declaration,
+    declaration: &'a Declaration,
     witness: &'a Witness,
 ) -> Result<Unjudged<'a>, Fault>
     requires { AreDeclared (declaration_of declaration.now) }

@@ -9,6 +9,7 @@ use Rattle.kmipa_turns.specs.Steps.{step_of}
 use Rattle.kmipa_turns.specs.declared.recorded.Recorded.{Recorded}
 use Rattle.kmipa_turns.specs.declared.step.Step.{Step}
 use Rattle.kmipa_trail.specs.Orders.{IsOrder}
+use Rattle.kmipa_trail.specs.Owners.{in_sight}
 use Rattle.kmipa_trail.specs.Replays.{AllTakable}
 use Rattle.kmipa_trail.proofs.CheckLemmas.{calls_numbered, calls_once, steps_takable}
 use Rattle.kmipa_unjudged.specs.Asides.{AreAside}
@@ -41,7 +42,7 @@ returns c = λ recorded.
     let Q : List Turn → Type 0 = λ ts. IsOrder (grants_of c.of-grants.result) (map recorded_of lent) (map turn_of ts) (map step_of steps) in
     let R : List Recorded → Type 0 = λ cs. IsOrder (grants_of c.of-grants.result) (map recorded_of cs) (map turn_of turns) (map step_of steps) in
     let G : GrantsOf → Type 0 = λ x. IsOrder x (map recorded_of calls) (map turn_of turns) (map step_of steps) in
-    let S : List Step → Type 0 = λ ss. AreAside declared (map step_of ss) (map named_of c.in_ok-aside.aside.items) in
+    let S : List Step → Type 0 = λ ss. AreAside declared (in_sight declared (map step_of ss)) (map named_of c.in_ok-aside.aside.items) in
     record {
       calls = map recorded_of calls;
       are = are;
