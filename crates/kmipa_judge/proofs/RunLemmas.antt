@@ -15,7 +15,8 @@ use Rattle.kmipa_runs.specs.Knowing.{KnowsSeals}
 use Rattle.kmipa_telling.proofs.SealLemmas.{fault_knows, silent_knows}
 use Rattle.kmipa_jobs.specs.Statuses.{IsSilent}
 use Rattle.kmipa_jobs.specs.declared.status.Status.{Status}
-use Rattle.kmipa_judge.specs.Declaring.{judging_by, nothing_known}
+use Rattle.kmipa_msgs.specs.declared.rules.Visibility.{Visibility}
+use Rattle.kmipa_judge.specs.Declaring.{is_presumed, judging_by, nothing_known}
 use Rattle.kmipa_judge.specs.Rules.{AreExplaining}
 use Rattle.kmipa_judge.specs.Clients.{AreOfOne}
 use Rattle.kmipa_judge.specs.Opinions.{Counts, IsFair}
@@ -28,15 +29,15 @@ use Rattle.kmipa_judge.specs.declared.rule.Rule.{Rule}
 pub judging_may : (d : DeclarationOf) → AreDeclared d → AreDeclared (judging_by d)
 judging_may d may = record { each = may.each; distinct = may.distinct }
 
-pub nothing_may : AreDeclared nothing_known
-nothing_may = record { each = λ k d less. absurd (omega (arith, less)); distinct = λ i j d before less. absurd (omega (arith, less)) }
+pub nothing_may : (v : Visibility) → AreDeclared (nothing_known v)
+nothing_may v = record { each = λ k d less. absurd (omega (arith, less)); distinct = λ i j d before less. absurd (omega (arith, less)) }
 
 -- what was appended to nothing
 pub from_nothing : (Is : List ℕ → Type 0) (old new : List ℕ) → old ≡ [] → Appends Is old new → Is new
 from_nothing Is old new none a = subst Is (sym (a.after ∙ ap (λ (l : List ℕ). l ++ a.appended) none)) a.is
 
 pub told_records : (seconds : ℕ) (before : Option Members) (assumed : Bool) (marks : List MarkOf) (declared : DeclarationOf) (outcome : Outcome) (rules : List Rule) (said : Status)
-    (lines witness declaration : List ℕ) → Judges seconds marks declared outcome → IsFair assumed marks outcome → AreExplaining assumed marks declared outcome rules
+    (lines witness declaration : List ℕ) → Judges seconds marks declared outcome → IsFair (is_presumed assumed declared.settings.visibility) marks outcome → AreExplaining assumed marks declared outcome rules
     → (Prints before assumed marks declared outcome rules said lines × Makes declared outcome witness declaration) ⊎ (IsSilent said lines × MakesNothing witness declaration)
     → JudgesRecords seconds before assumed marks declared said lines witness declaration
 told_records seconds before assumed marks declared outcome rules said lines witness declaration judges fair explaining (inl p) =
@@ -78,9 +79,9 @@ unread_knows form t d fault said lines bytes head (inr s) = silent_knows bytes s
 
 -- ---- where it counts that no order explains every answer
 
-pub fair_where : (assumed : Bool) (marks : List MarkOf) (counts : Bool) (o : Outcome) → Counts assumed marks counts → counts ≡ true → IsFair assumed marks o
-fair_where assumed marks counts (outcome.Judged j) sure e = λ decided is. elim (sure.0 e) [
+pub fair_where : (presumed : Bool) (marks : List MarkOf) (counts : Bool) (o : Outcome) → Counts presumed marks counts → counts ≡ true → IsFair presumed marks o
+fair_where presumed marks counts (outcome.Judged j) sure e = λ decided is. elim (sure.0 e) [
   | inl given ↦ let clash : true ≡ false = sym is ∙ given in absurd cc
   | inr one ↦ one
 ]
-fair_where assumed marks counts (outcome.Undecided u) sure e = tt
+fair_where presumed marks counts (outcome.Undecided u) sure e = tt

@@ -16,6 +16,7 @@ use Rattle.kmipa_check.specs.declared.auditing.AuditFault.{AuditFault}
 use Rattle.kmipa_runs.specs.Lines.{PrintsFault, fault_text}
 use Rattle.serde_json.specs.Data.{Members}
 use Rattle.kmipa_beside.proofs.StatusLemmas.{never_done, never_no}
+use Rattle.kmipa_judge.specs.Declaring.{is_presumed}
 use Rattle.kmipa_judge.specs.Opinions.{IsFair, opinion_by, opinion_found, opinion_of, opinion_status, opinion_unfound}
 use Rattle.kmipa_judge.specs.Forms.{ahead}
 use Rattle.kmipa_judge.specs.Runs.{IsReadAs, IsUsed, JudgesFiles, judged, unread, unsaid, tells, no_memory, Makes, Prints, PrintsFaultSo, is_assumed}
@@ -88,7 +89,7 @@ outcome_done seconds t d marks declared (outcome.Judged j) said witness used rea
     }
 
 outcome_no : {R : Type 0} (seconds : ℕ) (t : Input R) (d : Option (Input R)) (marks : List MarkOf) (declared : DeclarationOf) (o : Outcome) (said : Status)
-    → IsReadAs t marks → IsUsed d declared → Judges seconds marks declared o → IsFair (is_assumed d) marks o → said ≡ opinion_status (opinion_of o)
+    → IsReadAs t marks → IsUsed d declared → Judges seconds marks declared o → IsFair (is_presumed (is_assumed d) declared.settings.visibility) marks o → said ≡ opinion_status (opinion_of o)
     → said ≡ status.No → IsConvicted t d
 outcome_no seconds t d marks declared (outcome.Undecided u) said read is judges fair ends denied = let clash : status.GaveUp ≡ status.No = sym ends ∙ denied in absurd cc
 outcome_no seconds t d marks declared (outcome.Judged j) said read is judges fair ends denied =

@@ -45,12 +45,12 @@ opinion_status Convicted = status.No
 opinion_status Suspected = status.GaveUp
 opinion_status Undecided = status.GaveUp
 
--- It counts where something is declared, or all calls came from clients of one identity: else a server may have hidden objects from some of them, and that
--- isn't judged.
+-- It counts unless it is only presumed that each client sees every object, or where all calls came from clients of one identity: else a server may have hidden
+-- objects from some of them.
 abbrev pub Counts : Bool → List MarkOf → Bool → Type 0
-Counts assumed marks counts = IsTrue counts ↔ ((assumed ≡ false) ⊎ AreOfOne marks)
+Counts presumed marks counts = IsTrue counts ↔ ((presumed ≡ false) ⊎ AreOfOne marks)
 
 -- that no order explains every answer is said of an outcome only where it counts
 abbrev pub IsFair : Bool → List MarkOf → Outcome → Type 0
-IsFair assumed marks (outcome.Judged j) = j.is_decided ≡ true → assumed ≡ true → AreOfOne marks
-IsFair assumed marks (outcome.Undecided u) = Unit {0}
+IsFair presumed marks (outcome.Judged j) = j.is_decided ≡ true → presumed ≡ true → AreOfOne marks
+IsFair presumed marks (outcome.Undecided u) = Unit {0}

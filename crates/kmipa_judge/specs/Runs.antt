@@ -3,6 +3,7 @@ use Rattle.std.specs.Prelude.{◌≡◌, ◌⊎◌, ℕ, Bool, true, false, List
 use Rattle.serde_json.specs.Data.{Members}
 use Rattle.kmipa_ttlv.specs.Input.{came_of, is_ended, is_failed, IsFileOf}
 use Rattle.kmipa_ttlv.specs.declared.input.Input.{Input}
+use Rattle.kmipa_msgs.specs.declared.rules.Visibility.{Visibility}
 use Rattle.kmipa_record.specs.Declarations.{DeclarationOf, IsDeclarationWithin}
 use Rattle.kmipa_record.specs.Files.{Tells}
 use Rattle.kmipa_record.specs.Marks.{MarkOf}
@@ -21,7 +22,7 @@ use Rattle.kmipa_runs.specs.Lines.{PrintsFault}
 use Rattle.kmipa_jobs.specs.Statuses.{IsSilent}
 use Rattle.kmipa_jobs.specs.declared.status.Status.{Status}
 use Rattle.kmipa_beside.specs.Audits.{FailsFirst}
-use Rattle.kmipa_judge.specs.Declaring.{judging_by, nothing_known}
+use Rattle.kmipa_judge.specs.Declaring.{is_presumed, judging_by, nothing_known}
 use Rattle.kmipa_judge.specs.Forms.{ahead}
 use Rattle.kmipa_judge.specs.Lines.{PrintsOutcome}
 use Rattle.kmipa_judge.specs.Object.{TellsFaultWhole, TellsWhole}
@@ -64,7 +65,7 @@ PrintsFaultSo (Some before) fault said lines = TellsFaultWhole before fault said
 pub record TellsOutcome (seconds : ℕ) (before : Option Members) (assumed : Bool) (marks : List MarkOf) (declared : DeclarationOf) (said : Status) (lines witness declaration : List ℕ) : Type 0 where
   pub outcome : Outcome
   pub judges : Judges seconds marks declared outcome
-  pub fair : IsFair assumed marks outcome
+  pub fair : IsFair (is_presumed assumed declared.settings.visibility) marks outcome
   pub rules : List Rule
   pub explaining : AreExplaining assumed marks declared outcome rules
   pub prints : Prints before assumed marks declared outcome rules said lines
@@ -80,7 +81,7 @@ pub data JudgesRecords (seconds : ℕ) (before : Option Members) (assumed : Bool
 -- The declaration that is used: the one that the bytes are that came, to the end that was seen; or, where none is given, that of a server of which nothing is
 -- known.
 abbrev pub IsUsed : {R : Type 0} → Option (Input R) → DeclarationOf → Type 0
-IsUsed None declared = declared ≡ nothing_known
+IsUsed None declared = (v : Visibility) × (declared ≡ nothing_known v)
 IsUsed (Some d) declared = (given : DeclarationOf) × IsDeclarationWithin Aside (came_of d) given × IsTrue (is_ended d) × (declared ≡ judging_by given)
 
 abbrev pub is_assumed : {R : Type 0} → Option (Input R) → Bool

@@ -8,6 +8,7 @@ use Rattle.kmipa_trail.specs.Tallies.{TallyOf}
 use Rattle.kmipa_trail.specs.Verdicts.{IsAccepted}
 use Rattle.kmipa_findings.specs.Findings.{IsUnexplained}
 use Rattle.kmipa_judge.specs.Clients.{AreOfOne}
+use Rattle.kmipa_judge.specs.Declaring.{is_presumed}
 use Rattle.kmipa_judge.specs.Runs.{IsReadAs, IsUsed, is_assumed}
 
 -- The bytes that are made are a witness, that is accepted by the declaration that is used: nothing is set aside by it alone, and some item is judged.
@@ -23,11 +24,12 @@ pub record IsExplained {R : Type 0} (t : Input R) (d : Option (Input R)) (witnes
   pub unexcepted : tally.excepted ≡ 0
   pub some : tally.counts.judged ≢ 0
 
--- By the declaration that is used no order of the calls explains every answer; and where none is given, clients of one identity made all calls.
+-- By the declaration that is used no order of the calls explains every answer; and where it is only presumed that each client sees every object, clients of one
+-- identity made all calls.
 pub record IsConvicted {R : Type 0} (t : Input R) (d : Option (Input R)) : Type 0 where
   pub marks : List MarkOf
   pub read : IsReadAs t marks
   pub declared : DeclarationOf
   pub used : IsUsed d declared
   pub unexplained : IsUnexplained marks declared
-  pub of_one : is_assumed d ≡ true → AreOfOne marks
+  pub of_one : is_presumed (is_assumed d) declared.settings.visibility ≡ true → AreOfOne marks

@@ -7,11 +7,12 @@ ghost use Rattle.kmipa_judge.specs.Clients.{AreOfOne, IsBy, IsIdentityOf, ends_i
 
 use kmipa_record::Mark;
 
-/// Whether it counts that no order explains every answer: something is declared, or all calls came from clients of one identity.
-pub(crate) fn counts_for(assumed: bool, marks: &[Mark]) -> bool
-    ensures { AreRecorded (map mark_of marks.now) → Counts assumed (map mark_of marks.now) result }
+/// Whether it counts that no order explains every answer: it isn't only presumed that each client sees every object, or all calls came from clients of one
+/// identity.
+pub(crate) fn counts_for(presumed: bool, marks: &[Mark]) -> bool
+    ensures { AreRecorded (map mark_of marks.now) → Counts presumed (map mark_of marks.now) result }
 {
-    if assumed { are_of_one(marks) } else { true }
+    if presumed { are_of_one(marks) } else { true }
 }
 
 /// Whether all calls came from clients of one identity: that of the first.

@@ -11,11 +11,13 @@ ghost use Rattle.kmipa_record.specs.declared.reach.Reach.TheVariants.{Aside};
 ghost use Rattle.kmipa_findings.specs.Outcomes.{Judges};
 ghost use Rattle.kmipa_jobs.specs.Statuses.{IsSilent};
 ghost use Rattle.kmipa_judge.specs.Object.{TellsAlong, TellsBehind, TellsWhole};
+ghost use Rattle.kmipa_judge.specs.Declaring.{is_presumed};
 ghost use Rattle.kmipa_judge.specs.Opinions.{Counts, IsFair};
 ghost use Rattle.kmipa_judge.specs.Runs.{JudgesRecords, Makes, MakesNothing, Prints, PrintsWhole};
 ghost use Rattle.kmipa_judge.specs.Unjudged.{PrintsAlong, PrintsUnjudged};
 
 use crate::clients::counts_for;
+use crate::declaring::is_presumed;
 use crate::explaining::rules_explaining;
 use crate::found_object::{tally_object, tell_found, tell_steps};
 use crate::lines::outcome_lines;
@@ -98,7 +100,8 @@ fn tell_with_rules<W: Watch + Drop>(
     requires { AreDeclared (declaration_of records.now.declaration) }
     ensures told { (seconds : ℕ) → AreRecorded (transcript_of records.now.transcript)
         → Judges seconds (transcript_of records.now.transcript) (declaration_of records.now.declaration) outcome.now
-        → IsFair records.now.assumed (transcript_of records.now.transcript) outcome.now
+        → IsFair (is_presumed records.now.assumed (declaration_of records.now.declaration).settings.visibility)
+        (transcript_of records.now.transcript) outcome.now
         → JudgesRecords seconds (option_map members_of telling.opened) records.now.assumed
         (transcript_of records.now.transcript) (declaration_of records.now.declaration) result.status result.lines.items
         result.witness.items result.declaration.items }
@@ -110,7 +113,7 @@ fn tell_with_rules<W: Watch + Drop>(
     }
 }
 
-/// What is found in a transcript. Where nothing is declared, and several clients made the calls, nobody is convicted.
+/// What is found in a transcript. Where it is only presumed that each client sees every object, and several clients made the calls, nobody is convicted.
 fn find_fairly<W: Watch + Drop>(
     alloc: Global,
     records: &Records,
@@ -121,9 +124,12 @@ fn find_fairly<W: Watch + Drop>(
     ensures told { AreRecorded (transcript_of records.now.transcript) → IfOk result
         (Judges (W.seconds paced.old.watch) (transcript_of records.now.transcript) (declaration_of records.now.declaration)) }
     ensures fair { AreRecorded (transcript_of records.now.transcript) → IfOk result
-        (IsFair records.now.assumed (transcript_of records.now.transcript)) }
+        (IsFair (is_presumed records.now.assumed (declaration_of records.now.declaration).settings.visibility)
+        (transcript_of records.now.transcript)) }
 {
-    let counts = counts_for(records.assumed, &records.transcript.marks);
+    let visibility = records.declaration.settings.visibility;
+    let presumed = is_presumed(records.assumed, visibility);
+    let counts = counts_for(presumed, &records.transcript.marks);
     let outcome = find(
         alloc,
         &records.transcript,
@@ -138,7 +144,7 @@ fn find_fairly<W: Watch + Drop>(
 fn fair(outcome: Outcome, counts: bool) -> Outcome
     ensures judges { (seconds : ℕ) (marks : List MarkOf) (declared : DeclarationOf)
         → Judges seconds marks declared outcome → Judges seconds marks declared result }
-    ensures fair { (assumed : Bool) (marks : List MarkOf) → Counts assumed marks counts → IsFair assumed marks result }
+    ensures fair { (presumed : Bool) (marks : List MarkOf) → Counts presumed marks counts → IsFair presumed marks result }
 {
     if counts {
         return outcome;

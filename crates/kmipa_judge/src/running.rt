@@ -8,7 +8,7 @@ ghost use Rattle.kmipa_jobs.specs.declared.status.Status.{Status};
 ghost use Rattle.kmipa_judge.specs.Runs.{IsUnread, JudgesFiles, MakesNothing};
 ghost use Rattle.kmipa_judge.specs.Statuses.{IsConvicted, IsExplained};
 
-use crate::declaring::{judging_by, nothing_known};
+use crate::declaring::{assumed_visibility, judging_by, nothing_known};
 use crate::form::JudgeForm;
 use crate::holding::{read_given, read_recording};
 use crate::judging::{Records, judge_records, silent};
@@ -175,9 +175,10 @@ fn judge_one<R: Read, W: Watch + Drop>(
         Ok(opened) => opened,
         Err(_) => return silent(alloc, None),
     };
+    let visibility = assumed_visibility(&recording.marks);
     let records = Records {
         transcript: recording,
-        declaration: nothing_known(alloc),
+        declaration: nothing_known(alloc, visibility),
         assumed: true,
     };
     judge_records(alloc, records, opened, budget, watch)

@@ -34,7 +34,7 @@ returns-clause-told g c =
     let used = declaration_of c.nothing_known.result in
     let run = c.judge_records.result in
     let first = ok_told c.in-Ok.first recording _ c.in-Ok-first.is c.in-Ok.ensures.found in
-    judged (transcript_of recording) (record { transcript = first.0.0; ended = first.1 }) recording.head first.0.1 used c.nothing_known.ensures
+    judged (transcript_of recording) (record { transcript = first.0.0; ended = first.1 }) recording.head first.0.1 used (c.assumed_visibility-visibility.result, c.nothing_known.ensures)
     (records_opened (g.W.Watch.seconds c.args.watch) c.args.form recording.head t None (option_map members_of c.in-Ok-open_one.opened) true (transcript_of recording) used
     run.status run.lines.items run.witness.items run.declaration.items c.in-Ok-open_one.ensures (c.judge_records.ensures.told first.0.0.recorded))
 
