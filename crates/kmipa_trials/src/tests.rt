@@ -18,6 +18,7 @@ mod places;
 mod reading;
 mod refuting;
 mod searching;
+mod sights;
 mod spelled;
 mod streams;
 mod trail;

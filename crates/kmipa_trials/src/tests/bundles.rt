@@ -7,7 +7,7 @@ ghost use Rattle.kmipa_store.specs.States.{state_of_journal};
 use super::check;
 use super::reading::declared;
 use super::spelled::{DECLARATION, ENTRY};
-use kmipa_aside::{Passed, is_aside};
+use kmipa_aside::{Passed, Sight, is_aside};
 use kmipa_batch::CallRefusal;
 use kmipa_bundle::{
     Counts, is_readable_call, is_taking_order, is_unordered, is_whole_call, take_call,
@@ -356,6 +356,15 @@ fn numbers_of(counts: Counts) -> [usize; 5] {
     ]
 }
 
+// By the rules alone: nothing is hidden.
+fn sight(rules: &Rules) -> Sight<'_, 'static> {
+    Sight {
+        rules,
+        me: &[],
+        owners: &[],
+    }
+}
+
 // What comes of a call over such a ledger.
 fn taken(
     rt: &impl Abort,
@@ -368,7 +377,7 @@ fn taken(
     check(rt, is_whole_call(call), "a place is missing");
     check(rt, is_readable_call(call), "it can't be read");
     let rules = Rules::default_rules(alloc).expect(rt, "memory");
-    match take_call(alloc, ledger, &rules, call, None) {
+    match take_call(alloc, ledger, sight(&rules), call, None) {
         Ok(counts) => Ok(numbers_of(counts)),
         Err(refusal) => Err(refusal),
     }
@@ -391,7 +400,7 @@ fn taken_in(
     let may = is_taking_order(alloc, call, places).expect(rt, "memory");
     check(rt, may, "another order");
     let rules = Rules::default_rules(alloc).expect(rt, "memory");
-    match take_call(alloc, ledger, &rules, call, Some(places)) {
+    match take_call(alloc, ledger, sight(&rules), call, Some(places)) {
         Ok(counts) => Ok(numbers_of(counts)),
         Err(refusal) => Err(refusal),
     }

@@ -24,6 +24,11 @@ const NOTHING: &str = "\
     5400300100000050540002020000000400000002000000005400310600000008000000000000000054003505\
     0000000400000003000000005400360200000004000000000000000054003705000000040000000100000000";
 
+// Nothing is declared, nothing is known of other objects, and a server may hide the objects of some clients from others.
+const HIDING: &str = "\
+    5400300100000050540002020000000400000002000000005400310600000008000000000000000054003505\
+    0000000400000003000000005400360200000004000000000000000054003705000000040000000200000000";
+
 // A request to create a key of AES and 128 bits.
 const CREATE: &str = "\
     42007801000000B84200770100000038420069010000002042006A0200000004000000020000000042006B0200000004\
@@ -66,10 +71,17 @@ const PRE_ACTIVE_EARLIER: &str = "\
     42005C05000000040000000B0000000042007F0500000004000000000000000042007C01000000284200940700000002\
     6B31000000000000420125010000001042008D05000000040000000100000000";
 
-// What a laboratory saw: a call begins, or the call of this number ends.
+// The answer that there is no such object.
+const NOT_FOUND: &str = "\
+    42007B010000008842007A0100000048420069010000002042006A0200000004000000020000000042006B0200000004\
+    00000001000000004200920900000008000000006553F10042000D0200000004000000010000000042000F0100000030\
+    42005C05000000040000000A0000000042007F0500000004000000010000000042007E05000000040000000100000000";
+
+// What a laboratory saw: a call begins, one of another client begins, or the call of this number ends.
 #[derive(Clone, Copy)]
 enum Seen {
     Begins(i32, &'static str),
+    OtherBegins(i32, &'static str),
     Ends(i32, &'static str),
 }
 
@@ -152,6 +164,24 @@ const PENDING: [Seen; 7] = [
     Seen::Ends(4, GOT_OTHER),
 ];
 
+// Another client doesn't find the object of the first, which finds it.
+const HIDDEN: [Seen; 6] = [
+    Seen::Begins(1, CREATE),
+    Seen::Ends(1, CREATED_K1),
+    Seen::OtherBegins(2, GET_K1),
+    Seen::Ends(2, NOT_FOUND),
+    Seen::Begins(3, GET_K1),
+    Seen::Ends(3, GOT_K1),
+];
+
+// A client doesn't find its own object.
+const OWN: [Seen; 4] = [
+    Seen::Begins(1, CREATE),
+    Seen::Ends(1, CREATED_K1),
+    Seen::Begins(2, GET_K1),
+    Seen::Ends(2, NOT_FOUND),
+];
+
 // A pace whose seven seconds are over.
 #[derive(Drop)]
 struct Late {}
@@ -166,13 +196,18 @@ impl Pace for Late {
     }
 }
 
+fn begin_of(rt: &impl Abort, alloc: Global, call: i32, client: &str, message: &str) -> Mark {
+    Mark::Begin(Begin {
+        call,
+        client: String::from_str(alloc, client).expect(rt, "memory"),
+        message: bytes_of(rt, alloc, &[message]),
+    })
+}
+
 fn mark_of(rt: &impl Abort, alloc: Global, seen: Seen) -> Mark {
     match seen {
-        Seen::Begins(call, message) => Mark::Begin(Begin {
-            call,
-            client: String::from_str(alloc, "a").expect(rt, "memory"),
-            message: bytes_of(rt, alloc, &[message]),
-        }),
+        Seen::Begins(call, message) => begin_of(rt, alloc, call, "a", message),
+        Seen::OtherBegins(call, message) => begin_of(rt, alloc, call, "b", message),
         Seen::Ends(call, message) => Mark::End(End {
             call,
             message: bytes_of(rt, alloc, &[message]),
@@ -188,17 +223,17 @@ fn recorded(rt: &impl Abort, alloc: Global, seen: &[Seen]) -> Transcript {
     Transcript { marks, head: None }
 }
 
-fn nothing_declared(rt: &impl Abort, alloc: Global) -> Declaration
+fn declared(rt: &impl Abort, alloc: Global, declaration: &str) -> Declaration
     ensures { AreDeclared (declaration_of result) }
 {
-    let bytes = bytes_of(rt, alloc, &[NOTHING]);
+    let bytes = bytes_of(rt, alloc, &[declaration]);
     let mut input = Input::new(bytes.as_slice());
     read_declaration_within(alloc, &mut input, Reach::Aside).expect(rt, "a declaration")
 }
 
 fn judged(rt: &impl Abort, alloc: Global, seen: &[Seen]) -> Judged {
     let transcript = recorded(rt, alloc, seen);
-    let declaration = nothing_declared(rt, alloc);
+    let declaration = declared(rt, alloc, NOTHING);
     match judge(alloc, &transcript, &declaration, BUDGET, &mut Unpaced {}) {
         Ok(Outcome::Judged(judged)) => judged,
         _ => rt.panic("undecided"),
@@ -207,8 +242,19 @@ fn judged(rt: &impl Abort, alloc: Global, seen: &[Seen]) -> Judged {
 
 // What is found along the calls of these numbers, where that is told.
 fn found_along(rt: &impl Abort, alloc: Global, seen: &[Seen], order: &[i32]) -> Option<Judged> {
+    found_by(rt, alloc, NOTHING, seen, order)
+}
+
+// The same by a declaration.
+fn found_by(
+    rt: &impl Abort,
+    alloc: Global,
+    declaration: &str,
+    seen: &[Seen],
+    order: &[i32],
+) -> Option<Judged> {
     let transcript = recorded(rt, alloc, seen);
-    let declaration = nothing_declared(rt, alloc);
+    let declaration = declared(rt, alloc, declaration);
     let mut turns = Vec::new(alloc);
     for call in order {
         turns.push(Turn::bare(alloc, *call)).expect(rt, "memory");
@@ -312,7 +358,7 @@ fn nothing_is_decided_where_a_call_began_before_and_is_open(rt: HostRuntime) {
 #[test]
 fn a_pace_that_is_over_decides_nothing(rt: HostRuntime) {
     let transcript = recorded(&rt, rt.alloc(), &LIFE);
-    let declaration = nothing_declared(&rt, rt.alloc());
+    let declaration = declared(&rt, rt.alloc(), NOTHING);
     match judge(rt.alloc(), &transcript, &declaration, BUDGET, &mut Late {}) {
         Ok(Outcome::Undecided(undecided)) => {
             check(&rt, undecided.over == Some(7), "seven seconds are over");
@@ -325,7 +371,7 @@ fn a_pace_that_is_over_decides_nothing(rt: HostRuntime) {
 #[test]
 fn a_small_budget_decides_nothing(rt: HostRuntime) {
     let transcript = recorded(&rt, rt.alloc(), &LIFE);
-    let declaration = nothing_declared(&rt, rt.alloc());
+    let declaration = declared(&rt, rt.alloc(), NOTHING);
     match judge(rt.alloc(), &transcript, &declaration, 3, &mut Unpaced {}) {
         Ok(Outcome::Undecided(undecided)) => {
             check(&rt, undecided.findings.len() == 1, "one was found by then");
@@ -371,4 +417,20 @@ fn nothing_is_told_along_an_order_that_no_witness_has(rt: HostRuntime) {
     check(&rt, back.is_none(), "a call comes too late");
     let strange = found_along(&rt, rt.alloc(), &FAULTLESS, &[1, 2, 3, 4, 5]);
     check(&rt, strange.is_none(), "no such call");
+}
+
+#[test]
+fn an_object_may_be_hidden_along_an_order(rt: HostRuntime) {
+    let hidden = found_by(&rt, rt.alloc(), HIDING, &HIDDEN, &[1, 2, 3]);
+    let hidden = hidden.expect(&rt, "told");
+    check(&rt, hidden.findings.is_empty(), "no finding");
+    check(&rt, hidden.tally.judged == 3, "all items are judged");
+    let seen = found_by(&rt, rt.alloc(), NOTHING, &HIDDEN, &[1, 2, 3]);
+    let seen = seen.expect(&rt, "told");
+    check(&rt, seen.findings.len() == 1, "one finding");
+    check_finding(&rt, &seen.findings[0], 1, 2, Why::ReasonUnfounded);
+    let own = found_by(&rt, rt.alloc(), HIDING, &OWN, &[1, 2]);
+    let own = own.expect(&rt, "told");
+    check(&rt, own.findings.len() == 1, "an own object is seen");
+    check_finding(&rt, &own.findings[0], 1, 2, Why::ReasonUnfounded);
 }

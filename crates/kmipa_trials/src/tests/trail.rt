@@ -17,19 +17,19 @@ const T: i64 = 1_700_000_000;
 // What a check says: how many items aren't judged by their requests, by their answers, by the witness and by what they are about, how many are, and how
 // much is excepted; or the turn, the call, the item, the reason and the Time Stamp; or the turn and the fault of the witness.
 #[derive(Clone, Copy, PartialEq, Eq)]
-enum Said {
+pub(crate) enum Said {
     Yes([u128; 6]),
     No(usize, i32, usize, Why, Option<i64>),
     Fault(usize, WitnessKind),
     Memory,
 }
 
-struct Row {
-    what: &'static str,
-    transcript: &'static str,
-    declaration: &'static str,
-    witness: &'static str,
-    said: Said,
+pub(crate) struct Row {
+    pub(crate) what: &'static str,
+    pub(crate) transcript: &'static str,
+    pub(crate) declaration: &'static str,
+    pub(crate) witness: &'static str,
+    pub(crate) said: Said,
 }
 
 const TRANSCRIPT_1: &str = "\
@@ -521,7 +521,7 @@ fn said_of(checked: Result<Verdict, Fault>) -> Said {
     }
 }
 
-fn declared(rt: &impl Abort, alloc: Global, digits: &str) -> Declaration
+pub(crate) fn declared(rt: &impl Abort, alloc: Global, digits: &str) -> Declaration
     ensures { AreDeclared (declaration_of result) }
 {
     let bytes = bytes_of(rt, alloc, &[digits]);
@@ -529,7 +529,7 @@ fn declared(rt: &impl Abort, alloc: Global, digits: &str) -> Declaration
     read_declaration_within(alloc, &mut input, Reach::Aside).expect(rt, "a declaration")
 }
 
-fn checked(rt: &impl Abort, alloc: Global, row: &Row) -> Said {
+pub(crate) fn checked(rt: &impl Abort, alloc: Global, row: &Row) -> Said {
     let transcript = bytes_of(rt, alloc, &[row.transcript]);
     let witness = bytes_of(rt, alloc, &[row.witness]);
     let transcript = read_transcript(alloc, &mut Input::new(transcript.as_slice())).expect(
