@@ -180,6 +180,25 @@ class Rules(Laboratory):
                          (0, "0 rows, 0 entries, nothing is known of what isn't declared\n"))
         self.assertEqual(out.read_bytes().hex(), header.format(3))
 
+    def test_who_sees_whose_objects(self) -> None:
+        header = ("5400300100000050" "54000202000000040000000200000000" "54003106000000080000000000000000"
+                  "54003505000000040000000{}00000000" "54003602000000040000000000000000" "54003705000000040000000{}00000000")
+        self.assertEqual(self.declared("--visibility", "may-hide"), header.format(2, 2))
+        self.assertEqual(self.declared("--visibility", "must-hide", "--set-aside"), header.format(2, 3))
+        self.assertEqual(self.declared("--visibility", "everyone"), self.declared())
+        out = Path(self.folder) / "unknown.ttlv"
+        done = run("declare", "--unknown", "--visibility", "must-hide", "--out", str(out))
+        self.assertEqual(out.read_bytes().hex(), header.format(3, 3), done.stderr)
+        self.assertEqual(done.stdout, "0 rows, 0 entries, visibility must-hide, nothing is known of what isn't "
+                         "declared\n")
+        file = Path(self.folder) / "my.rules"
+        file.write_text("visibility may-hide\n", "utf-8")
+        self.assertEqual(self.declared("--rules", str(file)), header.format(2, 2))
+        self.assertIn("the server may hide objects, and has to: leave one of these words away",
+                      self.declared("--rules", str(file), "--visibility", "must-hide"))
+        self.assertIn("'nobody' doesn't say who sees whose objects: that is one of everyone, may-hide, must-hide",
+                      self.declared("--visibility", "nobody"))
+
     def test_a_file_says_what_words_say(self) -> None:
         file = Path(self.folder) / "my.rules"
         file.write_text("# a server\nunique-names\n\nreason 0x37=NotFound # why\nallow Destroy,Active=not\n"

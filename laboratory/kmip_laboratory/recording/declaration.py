@@ -8,7 +8,7 @@ from typing import NamedTuple, Optional
 from .. import ttlv
 from ..files import write_file
 from ..transcript import VERSION
-from .rules import Rules
+from .rules import Rules, Visibility, spelled
 
 HEADER = 0x540030
 UNIQUE_NAMES = 0x540031
@@ -28,9 +28,6 @@ RESULT_REASON = 0x42007E
 STATE = 0x42008D
 UNIQUE_IDENTIFIER = 0x420094
 ATTRIBUTE_REFERENCE = 0x42013B
-
-# Each client sees every object.
-EVERYONE = 1
 
 
 class Unjudged(IntEnum):
@@ -78,10 +75,18 @@ def _header(rules: Rules, held: Held) -> bytes:
     """The header of version 1 where that says all of it."""
     unique = ttlv.boolean(UNIQUE_NAMES, rules.unique_names)
     owned = any(entry.owner is not None for entry in held.entries)
-    if rules.allow_lines or rules.own or rules.tolerance or owned or held.unjudged != Unjudged.REFUSED:
-        return ttlv.structure(HEADER, ttlv.integer(VERSION, 2), unique, ttlv.enumeration(UNJUDGED, held.unjudged),
-                              ttlv.integer(TOLERANCE, rules.tolerance), ttlv.enumeration(VISIBILITY, EVERYONE))
+    unjudged = _unjudged(rules, held)
+    if rules.allow_lines or rules.own or rules.tolerance or owned or unjudged != Unjudged.REFUSED:
+        return ttlv.structure(HEADER, ttlv.integer(VERSION, 2), unique, ttlv.enumeration(UNJUDGED, unjudged),
+                              ttlv.integer(TOLERANCE, rules.tolerance), ttlv.enumeration(VISIBILITY, rules.visibility))
     return ttlv.structure(HEADER, ttlv.integer(VERSION, 1), unique)
+
+
+def _unjudged(rules: Rules, held: Held) -> Unjudged:
+    """What becomes of what isn't judged: who sees what is judged only where that doesn't end the audit."""
+    if rules.visibility != Visibility.everyone and held.unjudged == Unjudged.REFUSED:
+        return Unjudged.SET_ASIDE
+    return held.unjudged
 
 
 def _told(rules: Rules, held: Held) -> list[str]:
@@ -93,6 +98,8 @@ def _told(rules: Rules, held: Held) -> list[str]:
     told += [f"{len(rules.own)} own lines"] if rules.own else []
     told += [f"{owned} owners"] if owned else []
     told += [f"a tolerance of {rules.tolerance} s"] if rules.tolerance else []
+    told += [f"visibility {spelled(rules.visibility)}"] if rules.visibility != Visibility.everyone else []
+    told += ["what isn't judged is set aside"] if _unjudged(rules, held) != held.unjudged else []
     told += ["nothing is known of what isn't declared"] if held.unjudged == Unjudged.UNKNOWN else []
     return told
 

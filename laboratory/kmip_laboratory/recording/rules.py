@@ -1,9 +1,9 @@
 """Rules of a server: which reasons have a cause, whether names are unique, what a state allows, what the server itself
-gives an object at birth, and how far moments may be from Time Stamps.
+gives an object at birth, how far moments may be from Time Stamps, and who sees whose objects.
 
 A file of rules says one a line, as the words of `declare` do, without their dashes: `unique-names`,
-`reason 0x37=NotFound`, `allow Destroy,Active=not`, `own ActivationDate`, `tolerance 1`. What stands behind `#` is for
-whoever reads it.
+`reason 0x37=NotFound`, `allow Destroy,Active=not`, `own ActivationDate`, `tolerance 1`, `visibility may-hide`. What
+stands behind `#` is for whoever reads it.
 """
 
 from __future__ import annotations
@@ -66,6 +66,14 @@ class Own(IntEnum):
     DeactivationDate = 0x42002F
 
 
+class Visibility(IntEnum):
+    """Who sees whose objects: each client sees all; the server may hide those of others; or it has to."""
+
+    everyone = 1
+    may_hide = 2
+    must_hide = 3
+
+
 NEVER = "not"
 LONGEST_TOLERANCE = 86_400
 GONE = (State.Destroyed, State.DestroyedCompromised)
@@ -105,6 +113,7 @@ class Rules(NamedTuple):
     tolerance: int = 0
     # What the server itself may give an object at birth.
     own: tuple[Own, ...] = ()
+    visibility: Visibility = Visibility.everyone
 
 
 def read_row(words: str) -> Row:
@@ -154,6 +163,20 @@ def read_tolerance(words: str) -> int:
     return seconds
 
 
+def spelled(visibility: Visibility) -> str:
+    """Who sees whose objects, as a word of `declare` says it."""
+    return visibility.name.replace("_", "-")
+
+
+def read_visibility(words: str) -> Visibility:
+    """Who sees whose objects, by that word."""
+    for one in Visibility:
+        if spelled(one) == words:
+            return one
+    raise argparse.ArgumentTypeError(f"{words!r} doesn't say who sees whose objects: that is one of "
+                                     f"{', '.join(map(spelled, Visibility))}")
+
+
 def read_file(path: str) -> Rules:
     """The rules that the lines of a file say."""
     try:
@@ -162,7 +185,7 @@ def read_file(path: str) -> Rules:
         raise Trouble(f"{path} can't be read: {error.strerror}; name a file of rules") from None
     except UnicodeDecodeError:
         raise Trouble(f"{path} is no text in UTF-8: name a file of rules") from None
-    unique_names, rows, allow_lines, own, tolerances = False, [], [], [], []
+    unique_names, rows, allow_lines, own, tolerances, visibility = False, [], [], [], [], Visibility.everyone
     for place, line in enumerate(lines, 1):
         word, _, said = line.partition("#")[0].strip().partition(" ")
         try:
@@ -176,24 +199,30 @@ def read_file(path: str) -> Rules:
                 own.append(read_own(said.strip()))
             elif word == "tolerance":
                 tolerances.append(read_tolerance(said.strip()))
+            elif word == "visibility":
+                visibility = read_visibility(said.strip())
             elif word:
                 raise argparse.ArgumentTypeError(f"{line.strip()!r} is no rule: a line says unique-names, reason "
-                                                 "NUMBER=CAUSE, allow OPERATION,STATE=WORD, own ATTRIBUTE or tolerance "
-                                                 "SECONDS")
+                                                 "NUMBER=CAUSE, allow OPERATION,STATE=WORD, own ATTRIBUTE, tolerance "
+                                                 "SECONDS or visibility WORD")
         except argparse.ArgumentTypeError as trouble:
             raise Trouble(f"{path}, line {place}: {trouble}") from None
-    return Rules(unique_names, rows, allow_lines, max(tolerances, default=0), tuple(own))
+    return Rules(unique_names, rows, allow_lines, max(tolerances, default=0), tuple(own), visibility)
 
 
 def together(files: list[str], said: Rules) -> Rules:
-    """The rules of files and of words. A cell has one word: two that differ are refused. The longest tolerance
-    holds."""
+    """The rules of files and of words. A cell has one word, and so has who sees whose objects: two that differ are
+    refused. The longest tolerance holds."""
     every = [*map(read_file, files), said]
     lines = [line for rules in every for line in rules.allow_lines]
     cells = {(line.act, line.state): line for line in lines}
     for line in lines:
         if cells[line.act, line.state] != line:
             raise Trouble(f"{line.act.name} in state {line.state.name} has two words: leave one of them away")
+    hides = {rules.visibility for rules in every} - {Visibility.everyone}
+    if len(hides) > 1:
+        raise Trouble("the server may hide objects, and has to: leave one of these words away")
     return Rules(any(rules.unique_names for rules in every), [row for rules in every for row in rules.rows],
                  list(cells.values()), max(rules.tolerance for rules in every),
-                 tuple(dict.fromkeys(one for rules in every for one in rules.own)))
+                 tuple(dict.fromkeys(one for rules in every for one in rules.own)),
+                 max(hides, default=Visibility.everyone))

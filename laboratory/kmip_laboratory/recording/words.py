@@ -133,6 +133,9 @@ def _add_declare(word: argparse.ArgumentParser) -> None:
                       help="what the server itself may give an object at birth, as ActivationDate; may be repeated")
     word.add_argument("--tolerance", type=rules.read_tolerance, default=0, metavar="SECONDS", help="how far from the "
                       "Time Stamp of its answer a server may have done what it answers (0)")
+    word.add_argument("--visibility", type=rules.read_visibility, default=rules.Visibility.everyone, metavar="WORD",
+                      help="who sees whose objects: everyone, or the server may-hide or must-hide those of other "
+                      "clients (everyone); with the two last what isn't judged is set aside")
     word.add_argument("--version", type=read_version, metavar="MAJOR.MINOR", default=JUDGED,
                       help="ask in this version, from 1.0 on (2.1)")
     word.add_argument("--out", required=True, metavar="DECLARATION", help="a new file for it")
@@ -224,7 +227,7 @@ def _declare(words: argparse.Namespace) -> None:
                             *(path for each in shown for path in (each.certificate, each.key))])
     see_that_free(words.out, words.force, OUT_HINT)
     said = rules.together(words.rules, rules.Rules(words.unique_names, words.reason, words.allow, words.tolerance,
-                                                   tuple(words.own)))
+                                                   tuple(words.own), words.visibility))
     print(declaration.run(said, _held(words, shown), words.out, words.force))
 
 
