@@ -167,11 +167,13 @@ def row(reason: int, cause: int) -> bytes:
     return structure(0x540032, enumeration(0x42007E, reason), enumeration(0x540033, cause))
 
 
-def entry(name: str, bits: int = 128, names: tuple[str, ...] = (), material: bytes | None = None, **dates: int | None) -> bytes:
+def entry(name: str, bits: int = 128, names: tuple[str, ...] = (), material: bytes | None = None, owner: str | None = None, **dates: int | None) -> bytes:
     """A declared AES key."""
     parts = [identifier(name), enumeration(0x420057, SYMMETRIC_KEY), attributes(bits=bits, names=names, **dates)]
     if material is not None:
         parts.append(item(0x420043, BYTES, material))
+    if owner is not None:
+        parts.append(text(0x54003C, owner))
     return structure(0x540034, *parts)
 
 
@@ -233,6 +235,24 @@ class Session:
 
     def witness(self) -> bytes:
         return WITNESS_HEADER + b"".join(turn(number) for number in range(1, len(self.calls) + 1))
+
+
+@dataclass
+class Clients(Session):
+    """A session whose calls come from these clients. So many of the first calls stand alone; all others begin before
+    the first of them ends."""
+
+    names: list[str] = field(default_factory=list)
+    alone: int | None = None
+
+    def transcript(self) -> bytes:
+        begins, ends = [], []
+        for number, (name, (asked, answered)) in enumerate(zip(self.names, self.calls), 1):
+            begins.append(begin_mark(number, name, asked))
+            ends.append(b"" if answered is None else end_mark(number, answered))
+        alone = len(self.calls) if self.alone is None else self.alone
+        pairs = [mark for pair in zip(begins[:alone], ends) for mark in pair]
+        return TRANSCRIPT_HEADER + b"".join([*pairs, *begins[alone:], *ends[alone:]])
 
 
 @dataclass
