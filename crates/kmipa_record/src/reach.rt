@@ -1,7 +1,7 @@
 //! How far files are read and written.
 
 ghost use Rattle.std.specs.Prelude.{◌↔◌, IsTrue};
-ghost use Rattle.kmipa_record.specs.Reaches.{HasSight, ReachesAsides, ReachesSettings};
+ghost use Rattle.kmipa_record.specs.Reaches.{ReachesAsides, ReachesSettings};
 
 use crate::settings::Settings;
 use kmipa_msgs::{Unjudged, Visibility};
@@ -11,7 +11,7 @@ use kmipa_msgs::{Unjudged, Visibility};
 pub enum Reach {
     /// As far as calls are judged by it where nothing is set aside: no further than `read_declaration` and `read_witness` go.
     Judged,
-    /// As far as calls are judged by it beside what is set aside.
+    /// As far as calls are judged by it, whether or not something is set aside: all of a declaration.
     Aside,
     /// All that the format has.
     Whole,
@@ -23,8 +23,7 @@ impl Reach {
         ensures { IsTrue result ↔ ReachesSettings self settings.now }
     {
         match self {
-            Reach::Whole => true,
-            Reach::Aside => has_sight(settings),
+            Reach::Aside | Reach::Whole => true,
             Reach::Judged => match (settings.unjudged, settings.visibility) {
                 (Unjudged::Refused | Unjudged::SetAside, Visibility::Everyone) => true,
                 _ => false,
@@ -41,17 +40,5 @@ impl Reach {
             (Reach::Aside | Reach::Whole, Unjudged::Refused) => false,
             (Reach::Aside | Reach::Whole, Unjudged::SetAside | Unjudged::Unknown) => true,
         }
-    }
-}
-
-/// Whether clients see every object; or what isn't judged doesn't end the audit, and a server may hide the objects of other clients, or has to.
-fn has_sight(settings: &Settings) -> bool
-    ensures { IsTrue result ↔ HasSight settings.now }
-{
-    match (settings.visibility, settings.unjudged) {
-        (Visibility::Everyone, _) => true,
-        (Visibility::MayHide | Visibility::MustHide, Unjudged::SetAside | Unjudged::Unknown) =>
-            true,
-        (Visibility::MayHide | Visibility::MustHide, Unjudged::Refused) => false,
     }
 }
