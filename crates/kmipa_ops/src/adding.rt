@@ -104,8 +104,13 @@ pub(crate) fn add<L: Ledger>(
     }
 }
 
-/// The life of a new object: its Initial Date is the moment.
-fn new_life(t: i64, activation: Option<i64>, deactivation: Option<i64>, secret: SecretNo) -> Life
+/// The life of a new object of this secret, with the dates that it was given, in seconds since 1970-01-01T00:00:00Z: its Initial Date is the moment.
+pub fn new_life(
+    t: i64,
+    activation: Option<i64>,
+    deactivation: Option<i64>,
+    secret: SecretNo,
+) -> Life
     ensures dates { dates_of result
         ≡ record {
           initial = Some t;
@@ -127,8 +132,8 @@ fn new_life(t: i64, activation: Option<i64>, deactivation: Option<i64>, secret: 
     }
 }
 
-/// A new secret, of known bytes or unknown ones.
-fn new_own<L: Ledger>(
+/// A new secret of the ledger, of known bytes or unknown ones that fit the rule.
+pub fn new_own<L: Ledger>(
     ledger: &mut L,
     rule: Rule,
     material: Option<&[u8]>,

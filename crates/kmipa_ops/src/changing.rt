@@ -8,11 +8,11 @@ ghost use Rattle.kmipa_ops.specs.Row.{on_object};
 ghost use Rattle.kmipa_ops.specs.Subjects.{effect_of, subject_of};
 
 use crate::change::{Change, act_of, change_object, id_shown, is_change, why_not_changed};
-use crate::deed::Deed;
+use crate::deed::{Before, Deed};
 use crate::operation_row::{Effect, OperationRow, Subject};
 use crate::placeholder::Placeholder;
 use crate::why::Why;
-use kmipa_msgs::{Payload, Rules};
+use kmipa_msgs::Payload;
 use kmipa_store::Ledger;
 use std::alloc::{AllocError, Global};
 
@@ -54,14 +54,19 @@ impl<'a> Deed for Changing<'a> {
         &self,
         _alloc: Global,
         ledger: &L,
-        rules: &Rules,
-        placeholder: &Placeholder,
-        place: Option<usize>,
+        before: Before<'_>,
         payload: &Option<Payload>,
     ) -> Result<Option<Why>, AllocError> {
-        let about = placeholder.meant(self.id);
+        let about = before.placeholder.meant(self.id);
         let shown = id_shown(payload);
-        Ok(why_not_changed(ledger, rules, place, about, self.change, shown))
+        Ok(why_not_changed(
+            ledger,
+            before.rules,
+            before.place,
+            about,
+            self.change,
+            shown,
+        ))
     }
 
     fn leave<L: Ledger>(

@@ -12,7 +12,7 @@ ghost use Rattle.kmipa_ops.specs.Adding.{with_own, newborn};
 ghost use Rattle.kmipa_ops.specs.Create.{seen_created, create_speaks};
 
 use crate::adding::{Newborn, add, why_not_added};
-use crate::deed::Deed;
+use crate::deed::{Before, Deed};
 use crate::operation_row::{Effect, New, OperationRow, Subject};
 use crate::placeholder::Placeholder;
 use crate::why::Why;
@@ -66,13 +66,11 @@ impl Deed for Create {
         &self,
         _alloc: Global,
         ledger: &L,
-        rules: &Rules,
-        _placeholder: &Placeholder,
-        _place: Option<usize>,
+        before: Before<'_>,
         payload: &Option<Payload>,
     ) -> Result<Option<Why>, AllocError> {
         match shown(payload) {
-            Some(created) => Ok(why_not_created(ledger, rules, &self.attributes, created)),
+            Some(created) => Ok(why_not_created(ledger, before.rules, &self.attributes, created)),
             None => Ok(None),
         }
     }

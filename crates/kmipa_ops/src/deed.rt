@@ -7,6 +7,15 @@ use kmipa_msgs::{Payload, Rules};
 use kmipa_store::Ledger;
 use std::alloc::{AllocError, Global};
 
+/// What an item is judged by beside the ledger: the rules of the server, the ID Placeholder as it stands before the item, and the place of the object that is
+/// meant, where there is one.
+#[derive(Clone, Copy)]
+pub(crate) struct Before<'a> {
+    pub rules: &'a Rules,
+    pub placeholder: &'a Placeholder,
+    pub place: Option<usize>,
+}
+
 /// An operation that an item asks for.
 pub(crate) trait Deed {
     ghost use Rattle.std.specs.Prelude.{◌≡◌, ◌<◌, IfOk, IfSome, find, length, option_map};
@@ -47,24 +56,22 @@ pub(crate) trait Deed {
         ensures { maybe_lent result ≡ placeholder_done (maybe_lent held.entry) (asked self.now)
             (option_map payload_of payload.now) };
 
-    /// The lowest reason against it where it is done, with its payload or without one; `place` is that of the object that is meant.
+    /// The lowest reason against it where it is done, with its payload or without one.
     fn why_not_done<L: Ledger>(
         &self,
         alloc: Global,
         ledger: &L,
-        rules: &Rules,
-        placeholder: &Placeholder,
-        place: Option<usize>,
+        before: Before<'_>,
         payload: &Option<Payload>,
     ) -> Result<Option<Why>, AllocError>
         requires sound { IsSound (L.state ledger.now).now }
-        requires place { place ≡ place_about (L.state ledger.now).now.objects (placeholder_of placeholder.now)
+        requires place { before.place ≡ place_about (L.state ledger.now).now.objects (placeholder_of before.placeholder.now)
             (row_subject (asked_row (asked self.now))) }
-        requires within { IfSome place (λ p. p < length (L.state ledger.now).now.objects) }
+        requires within { IfSome before.place (λ p. p < length (L.state ledger.now).now.objects) }
         ensures { IfOk result
             (λ why. why
-            ≡ find (done_speaks (rules_of rules.now) (L.state ledger.now).now (placeholder_of placeholder.now)
-            (L.moment ledger.now) (asked self.now) (option_map payload_of payload.now)) whys) };
+            ≡ find (done_speaks (rules_of before.entry.rules.now) (L.state ledger.now).now
+            (placeholder_of before.entry.placeholder.now) (L.moment ledger.now) (asked self.now) (option_map payload_of payload.now)) whys) };
 
     /// Leaves the ledger and the placeholder as it does where nothing speaks against it.
     fn leave<L: Ledger>(

@@ -11,7 +11,7 @@ ghost use Rattle.kmipa_ops.specs.Whys.{whys};
 ghost use Rattle.kmipa_ops.specs.Get.{differs_at, get_speaks, seen_got, shows_other, taught};
 ghost use Rattle.kmipa_ops.specs.Meant.{place_meant};
 
-use crate::deed::Deed;
+use crate::deed::{Before, Deed};
 use crate::echo::{clash_lengths, clash_numbers, is_other_id, is_other_type};
 use crate::objects::is_excluded;
 use crate::operation_row::{Effect, OperationRow, Subject};
@@ -59,13 +59,11 @@ impl<'a> Deed for Get<'a> {
         &self,
         _alloc: Global,
         ledger: &L,
-        rules: &Rules,
-        placeholder: &Placeholder,
-        place: Option<usize>,
+        before: Before<'_>,
         payload: &Option<Payload>,
     ) -> Result<Option<Why>, AllocError> {
-        let about = placeholder.meant(self.id);
-        Ok(why_not_got(ledger, rules, place, about, shown(payload)))
+        let about = before.placeholder.meant(self.id);
+        Ok(why_not_got(ledger, before.rules, before.place, about, shown(payload)))
     }
 
     fn leave<L: Ledger>(

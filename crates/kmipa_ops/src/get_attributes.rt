@@ -12,7 +12,7 @@ ghost use Rattle.kmipa_ops.specs.Objects.{clash};
 ghost use Rattle.kmipa_ops.specs.GetAttributes.{seen_attributes, attributes_speak, get_attributes_speaks, has_stranger, is_foreign_date, shows_foreign, shows_other_date, shows_other_value};
 ghost use Rattle.kmipa_ops.specs.Whys.{whys};
 
-use crate::deed::Deed;
+use crate::deed::{Before, Deed};
 use crate::echo::{clash_lengths, clash_numbers, is_other_id, is_other_number};
 use crate::names::lacks_at;
 use crate::objects::is_excluded;
@@ -21,7 +21,7 @@ use crate::placeholder::Placeholder;
 use crate::required::lacks_required;
 use crate::why::Why;
 use kmipa_attrs::AttrSet;
-use kmipa_msgs::{GetAttributes, GotAttributes, Payload, Rules};
+use kmipa_msgs::{GetAttributes, GotAttributes, Payload};
 use kmipa_object::{Act, Life, Object, State};
 use kmipa_store::Ledger;
 use std::alloc::{AllocError, Global};
@@ -63,24 +63,23 @@ impl<'a> Deed for GetAttributes<'a> {
         &self,
         alloc: Global,
         ledger: &L,
-        rules: &Rules,
-        placeholder: &Placeholder,
-        place: Option<usize>,
+        before: Before<'_>,
         payload: &Option<Payload>,
     ) -> Result<Option<Why>, AllocError> {
-        let about = placeholder.meant(self.id);
-        let Some(place) = place else {
+        let about = before.placeholder.meant(self.id);
+        let Some(place) = before.place else {
             return Ok(Some(Why::NoSuchObject));
         };
         let state = ledger.state(place);
-        if is_excluded(rules, Act::GetAttributes, state) {
+        if is_excluded(before.rules, Act::GetAttributes, state) {
             return Ok(Some(Why::WrongState));
         }
         let Some(got) = shown(payload) else {
             return Ok(None);
         };
         let is_strange = lacks_at(ledger, got.attributes.names.as_slice(), place);
-        why_not_attributes(alloc, ledger.at(place), state, about, self, got, is_strange)
+        let seen = Seen { got, is_strange };
+        why_not_attributes(alloc, ledger.at(place), state, about, self, seen)
     }
 
     fn leave<L: Ledger>(
@@ -106,29 +105,36 @@ fn shown<'a>(payload: &'a Option<Payload<'a>>) -> Option<&'a GotAttributes<'a>>
     }
 }
 
-/// The lowest reason against an answer about an object, where it is known whether it shows a name that the object doesn't have.
+/// What an answer shows, and whether that has a name that the object doesn't have.
+#[derive(Clone, Copy)]
+struct Seen<'g, 'a> {
+    got: &'g GotAttributes<'a>,
+    is_strange: bool,
+}
+
+/// The lowest reason against an answer about an object.
 fn why_not_attributes(
     alloc: Global,
     object: &Object,
     state: State,
     about: Option<&str>,
     asked: &GetAttributes,
-    got: &GotAttributes,
-    is_strange: bool,
+    seen: Seen<'_, '_>,
 ) -> Result<Option<Why>, AllocError>
-    requires { is_strange ≡ has_stranger (card_of object.now).given.names (got_attributes_of got.now).attributes.names }
+    requires { seen.is_strange ≡ has_stranger (card_of object.now).given.names (got_attributes_of seen.got.now).attributes.names }
     ensures { IfOk result
         (λ why. why
         ≡ attributes_speak (card_of object.now) state (maybe_lent about.entry) (get_attributes_of asked.now)
-        (Some (got_attributes_of got.now))) }
+        (Some (got_attributes_of seen.entry.got.now))) }
 {
-    if shows_foreign(object, state, &got.attributes, is_strange) {
+    let attributes = &seen.got.attributes;
+    if shows_foreign(object, state, attributes, seen.is_strange) {
         return Ok(Some(Why::AttributeDiffers));
     }
-    if lacks_required(alloc, asked, object, &got.attributes)? {
+    if lacks_required(alloc, asked, object, attributes)? {
         return Ok(Some(Why::AttributeMissing));
     }
-    if is_other_id(got.id, about) {
+    if is_other_id(seen.got.id, about) {
         return Ok(Some(Why::EchoDiffers));
     }
     Ok(None)

@@ -2,11 +2,11 @@
 
 ghost use Rattle.kmipa_ops.specs.Subjects.{unjudged_of};
 
-use crate::deed::Deed;
+use crate::deed::{Before, Deed};
 use crate::operation_row::{Effect, OperationRow, Subject};
 use crate::placeholder::Placeholder;
 use crate::why::Why;
-use kmipa_msgs::{Payload, Rules};
+use kmipa_msgs::Payload;
 use kmipa_store::Ledger;
 use std::alloc::{AllocError, Global};
 
@@ -59,9 +59,7 @@ impl Deed for Unjudged {
         &self,
         _alloc: Global,
         _ledger: &L,
-        _rules: &Rules,
-        _placeholder: &Placeholder,
-        _place: Option<usize>,
+        _before: Before<'_>,
         _payload: &Option<Payload>,
     ) -> Result<Option<Why>, AllocError> {
         Ok(None)

@@ -30,6 +30,7 @@ mod required;
 mod taking;
 mod why;
 
+pub use adding::{new_life, new_own};
 pub use change::Change;
 pub use deeds::{about, held_after, row_of};
 pub use echo::{clash_bytes, is_other_number};

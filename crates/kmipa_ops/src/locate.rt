@@ -5,12 +5,12 @@ ghost use Rattle.kmipa_msgs.specs.Messages.{lent, locate_of, located_of, locates
 ghost use Rattle.kmipa_ops.specs.Locate.{only, seen_located};
 ghost use Rattle.kmipa_ops.specs.Placeholders.{placeholder_of};
 
-use crate::deed::Deed;
+use crate::deed::{Before, Deed};
 use crate::listing::why_not_listed;
 use crate::operation_row::{Effect, OperationRow, Subject};
 use crate::placeholder::Placeholder;
 use crate::why::Why;
-use kmipa_msgs::{Locate, Located, Payload, Rules};
+use kmipa_msgs::{Locate, Located, Payload};
 use kmipa_store::Ledger;
 use std::alloc::{AllocError, Global};
 
@@ -54,9 +54,7 @@ impl Deed for Locate {
         &self,
         alloc: Global,
         ledger: &L,
-        _rules: &Rules,
-        _placeholder: &Placeholder,
-        _place: Option<usize>,
+        _before: Before<'_>,
         payload: &Option<Payload>,
     ) -> Result<Option<Why>, AllocError> {
         match shown(payload) {

@@ -12,7 +12,7 @@ ghost use Rattle.kmipa_ops.specs.Adding.{with_own, newborn};
 ghost use Rattle.kmipa_ops.specs.Register.{seen_registered, register_speaks, brought, either_of};
 
 use crate::adding::{Newborn, add, why_not_added};
-use crate::deed::Deed;
+use crate::deed::{Before, Deed};
 use crate::operation_row::{Effect, New, OperationRow, Subject};
 use crate::placeholder::Placeholder;
 use crate::why::Why;
@@ -66,13 +66,17 @@ impl<'a> Deed for Register<'a> {
         &self,
         alloc: Global,
         ledger: &L,
-        rules: &Rules,
-        _placeholder: &Placeholder,
-        _place: Option<usize>,
+        before: Before<'_>,
         payload: &Option<Payload>,
     ) -> Result<Option<Why>, AllocError> {
         match shown(payload) {
-            Some(registered) => Ok(why_not_registered(alloc, ledger, rules, self, registered)),
+            Some(registered) => Ok(why_not_registered(
+                alloc,
+                ledger,
+                before.rules,
+                self,
+                registered,
+            )),
             None => Ok(None),
         }
     }

@@ -17,7 +17,7 @@ ghost use Rattle.kmipa_ops.specs.Whys.{whys};
 
 use crate::change::Change;
 use crate::changing::Changing;
-use crate::deed::Deed;
+use crate::deed::{Before, Deed};
 use crate::deeds::with_deed;
 use crate::echo::{clash_bytes, is_other_number};
 use crate::failed::is_founded;
@@ -31,9 +31,10 @@ use kmipa_msgs::{Answer, Ask, Asked, Payload, Rules, Status};
 use kmipa_store::Ledger;
 use std::alloc::{AllocError, Global};
 
-/// The part of an item that is the same for each operation: Unique Batch Item ID, and the number of the operation.
+/// The part of an item that is the same for each operation: the rules of the server, Unique Batch Item ID, and the number of the operation.
 #[derive(Clone, Copy)]
 struct Frame<'a> {
+    rules: &'a Rules,
     batch_id: Option<&'a [u8]>,
     number: u32,
 }
@@ -58,12 +59,13 @@ pub fn take<L: Ledger>(
         (answer_of answer.now) result (L.state ledger.new) (placeholder_of placeholder.new) }
 {
     let frame = Frame {
+        rules,
         batch_id: ask.batch_id,
         number: ask.number(),
     };
     ledger.set_moment(t);
     prepare_for(ledger, &ask.asked, &answer.payload);
-    take_asked(alloc, ledger, rules, placeholder, frame, &ask.asked, answer)
+    take_asked(alloc, ledger, placeholder, frame, &ask.asked, answer)
 }
 
 /// Makes the ledger ready for what is looked for in it.
@@ -80,7 +82,6 @@ fn prepare_for<L: Ledger>(ledger: &mut L, asked: &Asked, payload: &Option<Payloa
 fn take_asked<L: Ledger>(
     alloc: Global,
     ledger: &mut L,
-    rules: &Rules,
     placeholder: &mut Placeholder,
     frame: Frame<'_>,
     asked: &Asked,
@@ -90,14 +91,14 @@ fn take_asked<L: Ledger>(
     requires number { frame.number ≡ operation_number (operation_asked (asked_of asked.now)) }
     requires readable { is_readable (ask_with (maybe_lent frame.batch_id) (asked_of asked.now)) (answer_of answer.now)
         ≡ true }
-    ensures { Taken (rules_of rules.now) (L.state ledger.old) (placeholder_of placeholder.old) (L.moment ledger.old)
+    ensures { Taken (rules_of frame.entry.rules.now) (L.state ledger.old) (placeholder_of placeholder.old) (L.moment ledger.old)
         (ask_with (maybe_lent frame.entry.batch_id) (asked_of asked.now)) (answer_of answer.now) result
         (L.state ledger.new) (placeholder_of placeholder.new) }
 {
     with_deed!(
         asked,
         deed,
-        take_deed(alloc, ledger, rules, placeholder, frame, deed, answer)
+        take_deed(alloc, ledger, placeholder, frame, deed, answer)
     )
 }
 
@@ -105,7 +106,6 @@ fn take_asked<L: Ledger>(
 fn take_deed<D: Deed, L: Ledger>(
     alloc: Global,
     ledger: &mut L,
-    rules: &Rules,
     placeholder: &mut Placeholder,
     frame: Frame<'_>,
     deed: &D,
@@ -115,21 +115,17 @@ fn take_deed<D: Deed, L: Ledger>(
     requires number { frame.number ≡ operation_number (operation_asked (D.asked deed.now)) }
     requires readable { is_readable (ask_with (maybe_lent frame.batch_id) (D.asked deed.now)) (answer_of answer.now)
         ≡ true }
-    ensures { Taken (rules_of rules.now) (L.state ledger.old) (placeholder_of placeholder.old) (L.moment ledger.old)
+    ensures { Taken (rules_of frame.entry.rules.now) (L.state ledger.old) (placeholder_of placeholder.old) (L.moment ledger.old)
         (ask_with (maybe_lent frame.entry.batch_id) (D.asked deed.now)) (answer_of answer.now) result
         (L.state ledger.new) (placeholder_of placeholder.new) }
 {
     let place = place_about(ledger, placeholder, deed.row().subject);
-    let Ok(lowest) = lowest_why(
-        alloc,
-        ledger,
-        rules,
+    let before = Before {
+        rules: frame.rules,
         placeholder,
         place,
-        frame,
-        deed,
-        answer,
-    ) else {
+    };
+    let Ok(lowest) = lowest_why(alloc, ledger, before, frame, deed, answer) else {
         return Err(Refusal::Memory);
     };
     match lowest {
@@ -149,27 +145,25 @@ fn take_deed<D: Deed, L: Ledger>(
 fn lowest_why<D: Deed, L: Ledger>(
     alloc: Global,
     ledger: &L,
-    rules: &Rules,
-    placeholder: &Placeholder,
-    place: Option<usize>,
+    before: Before<'_>,
     frame: Frame<'_>,
     deed: &D,
     answer: &Answer,
 ) -> Result<Option<Why>, AllocError>
     requires sound { IsSound (L.state ledger.now).now }
     requires number { frame.number ≡ operation_number (operation_asked (D.asked deed.now)) }
-    requires place { place ≡ place_about (L.state ledger.now).now.objects (placeholder_of placeholder.now)
+    requires place { before.place ≡ place_about (L.state ledger.now).now.objects (placeholder_of before.placeholder.now)
         (row_subject (asked_row (D.asked deed.now))) }
-    requires within { IfSome place (λ p. p < length (L.state ledger.now).now.objects) }
+    requires within { IfSome before.place (λ p. p < length (L.state ledger.now).now.objects) }
     ensures { IfOk result
         (λ why. why
-        ≡ lowest (rules_of rules.now) (L.state ledger.now).now (placeholder_of placeholder.now) (L.moment ledger.now)
-        (ask_with (maybe_lent frame.entry.batch_id) (D.asked deed.now)) (answer_of answer.now)) }
+        ≡ lowest (rules_of before.entry.rules.now) (L.state ledger.now).now (placeholder_of before.entry.placeholder.now)
+        (L.moment ledger.now) (ask_with (maybe_lent frame.entry.batch_id) (D.asked deed.now)) (answer_of answer.now)) }
 {
     if is_other_number(answer.operation, frame.number) {
         return Ok(Some(Why::OperationDiffers));
     }
-    let outcome = outcome_why(alloc, ledger, rules, placeholder, place, deed, answer)?;
+    let outcome = outcome_why(alloc, ledger, before, deed, answer)?;
     match outcome {
         Some(why) => Ok(Some(why)),
         None => Ok(echo_why(frame, answer)),
@@ -191,50 +185,46 @@ fn echo_why(frame: Frame<'_>, answer: &Answer) -> Option<Why>
 fn outcome_why<D: Deed, L: Ledger>(
     alloc: Global,
     ledger: &L,
-    rules: &Rules,
-    placeholder: &Placeholder,
-    place: Option<usize>,
+    before: Before<'_>,
     deed: &D,
     answer: &Answer,
 ) -> Result<Option<Why>, AllocError>
     requires sound { IsSound (L.state ledger.now).now }
-    requires place { place ≡ place_about (L.state ledger.now).now.objects (placeholder_of placeholder.now)
+    requires place { before.place ≡ place_about (L.state ledger.now).now.objects (placeholder_of before.placeholder.now)
         (row_subject (asked_row (D.asked deed.now))) }
-    requires within { IfSome place (λ p. p < length (L.state ledger.now).now.objects) }
+    requires within { IfSome before.place (λ p. p < length (L.state ledger.now).now.objects) }
     ensures { IfOk result
         (λ why. why
-        ≡ find (outcome_speaks answer.now.status (rules_of rules.now) (L.state ledger.now).now
-        (placeholder_of placeholder.now) (L.moment ledger.now) (D.asked deed.now) answer.now.reason
+        ≡ find (outcome_speaks answer.now.status (rules_of before.entry.rules.now) (L.state ledger.now).now
+        (placeholder_of before.entry.placeholder.now) (L.moment ledger.now) (D.asked deed.now) answer.now.reason
         (answer_of answer.now).payload) whys) }
 {
     match answer.status {
         Status::Success | Status::Undone => {
-            deed.why_not_done(alloc, ledger, rules, placeholder, place, &answer.payload)
+            deed.why_not_done(alloc, ledger, before, &answer.payload)
         }
-        Status::Failed => Ok(failure_why(ledger, rules, placeholder, place, deed, answer.reason)),
+        Status::Failed => Ok(failure_why(ledger, before, deed, answer.reason)),
     }
 }
 
 fn failure_why<D: Deed, L: Ledger>(
     ledger: &L,
-    rules: &Rules,
-    placeholder: &Placeholder,
-    place: Option<usize>,
+    before: Before<'_>,
     deed: &D,
     reason: Option<u32>,
 ) -> Option<Why>
-    requires place { place ≡ place_about (L.state ledger.now).now.objects (placeholder_of placeholder.now)
+    requires place { before.place ≡ place_about (L.state ledger.now).now.objects (placeholder_of before.placeholder.now)
         (row_subject (asked_row (D.asked deed.now))) }
-    requires within { IfSome place (λ p. p < length (L.state ledger.now).now.objects) }
+    requires within { IfSome before.place (λ p. p < length (L.state ledger.now).now.objects) }
     ensures { result ≡ find
-        (failure_speaks (rules_of rules.now) (L.state ledger.now).now (placeholder_of placeholder.now)
+        (failure_speaks (rules_of before.entry.rules.now) (L.state ledger.now).now (placeholder_of before.entry.placeholder.now)
         (L.moment ledger.now) (D.asked deed.now) reason) whys }
 {
     if is_founded(
         ledger,
-        rules,
-        placeholder,
-        place,
+        before.rules,
+        before.placeholder,
+        before.place,
         deed.row().subject,
         reason,
     ) {

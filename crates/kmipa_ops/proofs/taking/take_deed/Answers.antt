@@ -8,7 +8,7 @@ use Rattle.kmipa_ops.proofs.taking.take_deed.Goals as goal
 
 pub returns-in-Some : goal.returns-in-Some
 returns-in-Some g c = (
-  refuted (rules_of c.args.rules.now) (g.L.Ledger.state c.args.ledger.now).now (placeholder_of c.args.placeholder.now) (g.L.Ledger.moment c.args.ledger.now)
+  refuted (rules_of c.args.frame.rules.now) (g.L.Ledger.state c.args.ledger.now).now (placeholder_of c.args.placeholder.now) (g.L.Ledger.moment c.args.ledger.now)
       (ask_with (maybe_lent c.args.frame.batch_id) (g.D.Deed.asked c.args.deed.now)) (answer_of c.args.answer.now) c.in-Some.why (sym (sym c.in-Some.is ∙ c.in-Ok.ensures)),
   refl,
   refl,
@@ -16,11 +16,11 @@ returns-in-Some g c = (
 
 pub returns-in-Ok-leave : goal.returns-in-Ok-leave
 returns-in-Ok-leave g c =
-    took (rules_of c.args.rules.now) (g.L.Ledger.state c.args.ledger.now) (placeholder_of c.args.placeholder.now) (g.L.Ledger.moment c.args.ledger.now)
+    took (rules_of c.args.frame.rules.now) (g.L.Ledger.state c.args.ledger.now) (placeholder_of c.args.placeholder.now) (g.L.Ledger.moment c.args.ledger.now)
     (ask_with (maybe_lent c.args.frame.batch_id) (g.D.Deed.asked c.args.deed.now)) (answer_of c.args.answer.now) (g.L.Ledger.state c.leave.new.ledger) (placeholder_of c.leave.new.placeholder)
     c.requires.sound c.requires.readable (c.brings_bytes.ensures, c.shows_bytes.ensures) (sym (sym c.in-None.is ∙ c.in-Ok.ensures)) c.in-Ok-leave.ensures.0 c.in-Ok-leave.ensures.1
 
 pub leave-requires-clause-unopposed : goal.leave-requires-clause-unopposed
 leave-requires-clause-unopposed g c =
-    done_unopposed (rules_of c.args.rules.now) (g.L.Ledger.state c.args.ledger.now).now (placeholder_of c.args.placeholder.now) (g.L.Ledger.moment c.args.ledger.now)
+    done_unopposed (rules_of c.args.frame.rules.now) (g.L.Ledger.state c.args.ledger.now).now (placeholder_of c.args.placeholder.now) (g.L.Ledger.moment c.args.ledger.now)
     (ask_with (maybe_lent c.args.frame.batch_id) (g.D.Deed.asked c.args.deed.now)) (answer_of c.args.answer.now) (sym (sym c.in-None.is ∙ c.in-Ok.ensures))

@@ -23,7 +23,7 @@ returns g c =
     let asked = get_attributes_of c.args.self.now in
     IfOk-weaker c.why_not_attributes.result _ _
     (λ (why : Option Why) w.
-    why_there (rules_of c.args.rules.now) (g.L.Ledger.state c.args.ledger.now).now.objects (meant asked.id (placeholder_of c.args.placeholder.now)) (g.L.Ledger.moment c.args.ledger.now) asked
-    c.in-Some.place c.args.place (option_and_then seen_attributes (option_map payload_of c.args.payload.now)) c.state-state.result c.in-Some.is c.requires.place c.state-state.ensures
+    why_there (rules_of c.args.before.rules.now) (g.L.Ledger.state c.args.ledger.now).now.objects (meant asked.id (placeholder_of c.args.before.placeholder.now)) (g.L.Ledger.moment c.args.ledger.now) asked
+    c.in-Some.place c.args.before.place (option_and_then seen_attributes (option_map payload_of c.args.payload.now)) c.state-state.result c.in-Some.is c.requires.place c.state-state.ensures
     (held c.at.result.now) (maybe_lent c.meant-about.result) (Some (got_attributes_of c.in-Some-shown.got.now)) why c.at.ensures
     (sym c.is_excluded.ensures ∙ c.if-is_excluded.false) c.meant-about.ensures c.in-Some-shown.ensures w) c.why_not_attributes.ensures
