@@ -15,39 +15,36 @@ use kmipa_ops::{Placeholder, Refusal, take};
 use kmipa_store::Ledger;
 use std::alloc::Global;
 
+/// The messages of a call, and the rules of the server that they are judged by.
+#[derive(Clone, Copy)]
+pub(crate) struct Exchange<'a> {
+    pub rules: &'a Rules,
+    pub request: &'a Request<'a>,
+    pub response: &'a Response<'a>,
+}
+
 /// Takes the items of a call in the order of these places, counted from 1, or else the first `count` by place. The ID Placeholder is empty
 /// at the start.
 #[inline(always)]
 pub(crate) fn take_along<L: Ledger>(
     alloc: Global,
     ledger: &mut L,
-    rules: &Rules,
-    request: &Request,
-    response: &Response,
+    call: Exchange<'_>,
     places: Option<&[usize]>,
     count: usize,
 ) -> Result<(), CallRefusal>
     requires sound { IsSound (L.state ledger.old).now }
-    requires readable { AreReadable (pairs_of (request_of request.now) (response_of response.now)) }
+    requires readable { AreReadable (pairs_of (request_of call.request.now) (response_of call.response.now)) }
     requires counted { length (places_of (order_given (maybe_lent places)) count) ≡ count }
     requires from_one { IfSome (maybe_lent places) (λ ps. All (λ p. 1 ≤ p) ps) }
-    ensures { AlongTaken (rules_of rules.now) response.now.stamp (L.state ledger.old)
-        (pairs_of (request_of request.now) (response_of response.now))
+    ensures { AlongTaken (rules_of call.entry.rules.now) call.entry.response.now.stamp (L.state ledger.old)
+        (pairs_of (request_of call.entry.request.now) (response_of call.entry.response.now))
         (places_of (order_given (maybe_lent places.entry)) count) result (L.state ledger.new) }
 {
     let mut placeholder = Placeholder::new();
     for position in 0..count {
         let place = place_at(places, position);
-        let taken = take_pair(
-            alloc,
-            ledger,
-            rules,
-            &mut placeholder,
-            request,
-            response,
-            place,
-        );
-        if let Err(refusal) = taken {
+        if let Err(refusal) = take_pair(alloc, ledger, call, &mut placeholder, place) {
             return Err(reported_at(place, refusal));
         }
     }
@@ -73,26 +70,25 @@ fn place_at(places: Option<&[usize]>, position: usize) -> usize
 fn take_pair<L: Ledger>(
     alloc: Global,
     ledger: &mut L,
-    rules: &Rules,
+    call: Exchange<'_>,
     placeholder: &mut Placeholder,
-    request: &Request,
-    response: &Response,
     place: usize,
 ) -> Result<(), Refusal>
     requires sound { IsSound (L.state ledger.old).now }
-    requires readable { AreReadable (pairs_of (request_of request.now) (response_of response.now)) }
-    ensures { PairTaken (rules_of rules.now) (L.state ledger.old) (placeholder_of placeholder.old) response.now.stamp
-        (slice_get (pairs_of (request_of request.now) (response_of response.now)) place) result (L.state ledger.new)
+    requires readable { AreReadable (pairs_of (request_of call.request.now) (response_of call.response.now)) }
+    ensures { PairTaken (rules_of call.entry.rules.now) (L.state ledger.old) (placeholder_of placeholder.old)
+        call.entry.response.now.stamp
+        (slice_get (pairs_of (request_of call.entry.request.now) (response_of call.entry.response.now)) place) result (L.state ledger.new)
         (placeholder_of placeholder.new) }
 {
-    let Some(ask) = request.items.get(place) else {
+    let Some(ask) = call.request.items.get(place) else {
         return Ok(());
     };
-    let Some(answer) = response.items.get(place) else {
+    let Some(answer) = call.response.items.get(place) else {
         return Ok(());
     };
-    let t = response_stamp(response);
-    take(alloc, ledger, rules, placeholder, t, ask, answer)
+    let t = response_stamp(call.response);
+    take(alloc, ledger, call.rules, placeholder, t, ask, answer)
 }
 
 fn response_stamp(response: &Response) -> i64

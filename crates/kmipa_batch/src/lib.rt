@@ -16,5 +16,5 @@ pub use laws::{
 pub use order::{is_taking_order, is_unordered};
 pub use readable::is_readable_call;
 pub use refusal::CallRefusal;
-pub use shape::{first_failed, is_refused_message, is_shaped_at};
+pub use shape::{first_failed, has_shape, is_refused_message, is_shaped_at, is_undone};
 pub use taking::take_call;

@@ -40,8 +40,8 @@ pub fn first_failed(answers: &[Answer]) -> Option<usize>
     None
 }
 
-/// Whether a failure undoes the batch.
-pub(crate) fn is_undone(option: BatchOption, failed: Option<usize>) -> bool
+/// Whether a failure undoes the batch, by its Batch Error Continuation Option and the place of the first failed answer.
+pub fn is_undone(option: BatchOption, failed: Option<usize>) -> bool
     ensures { result ≡ undoes option failed }
 {
     match option {
@@ -76,8 +76,9 @@ fn status_at(response: &Response, place: usize) -> Option<Status>
     }
 }
 
-/// Whether a place may have an answer of this status, or none, where `asked` says that the request has an item there.
-fn has_shape(
+/// Whether a place, from 0, may have an answer of this status, or none, by the Batch Error Continuation Option and the place of the first failed
+/// answer; `asked` says whether the request has an item there.
+pub fn has_shape(
     option: BatchOption,
     failed: Option<usize>,
     place: usize,

@@ -11,7 +11,7 @@ ghost use Rattle.kmipa_batch.specs.Readable.{AreReadable, IsReadableCall};
 ghost use Rattle.kmipa_batch.specs.Refusals.{CallTakenAlong};
 ghost use Rattle.kmipa_batch.specs.Running.{LowestUnshaped, Ran, TakesCount};
 
-use crate::along::take_along;
+use crate::along::{Exchange, take_along};
 use crate::order::is_unordered;
 use crate::refusal::CallRefusal;
 use crate::shape::{first_failed, is_refused_message, is_shaped_at, is_undone};
@@ -51,7 +51,12 @@ pub fn take_call<L: Ledger>(
         return Err(CallRefusal::Memory);
     };
     let failed = first_failed(&response.items);
-    match take_items(alloc, ledger, rules, request, response, places, failed) {
+    let call = Exchange {
+        rules,
+        request,
+        response,
+    };
+    match take_items(alloc, ledger, call, places, failed) {
         Ok(()) => {
             end(ledger, mark, request.option, failed);
             Ok(())
@@ -81,31 +86,31 @@ fn end<L: Ledger>(ledger: &mut L, mark: Mark, option: BatchOption, failed: Optio
 fn take_items<L: Ledger>(
     alloc: Global,
     ledger: &mut L,
-    rules: &Rules,
-    request: &Request,
-    response: &Response,
+    call: Exchange<'_>,
     places: Option<&[usize]>,
     failed: Option<usize>,
 ) -> Result<(), CallRefusal>
     requires sound { IsSound (L.state ledger.old).now }
-    requires readable { AreReadable (pairs_of (request_of request.now) (response_of response.now)) }
-    requires unrefused { RefusesMessage (response_of response.now) → ⊥ }
-    requires failed_at { FailedAt (response_of response.now).items failed }
+    requires readable { AreReadable (pairs_of (request_of call.request.now) (response_of call.response.now)) }
+    requires unrefused { RefusesMessage (response_of call.response.now) → ⊥ }
+    requires failed_at { FailedAt (response_of call.response.now).items failed }
     requires from_one { IfSome (maybe_lent places) (λ ps. All (λ p. 1 ≤ p) ps) }
-    requires order { MayTake (request_of request.now) (response_of response.now) (order_given (maybe_lent places)) }
-    ensures { Ran (rules_of rules.now) (L.state ledger.old) (request_of request.now) (response_of response.now)
+    requires order { MayTake (request_of call.request.now) (response_of call.response.now)
+        (order_given (maybe_lent places)) }
+    ensures { Ran (rules_of call.entry.rules.now) (L.state ledger.old) (request_of call.entry.request.now)
+        (response_of call.entry.response.now)
         (order_given (maybe_lent places.entry)) result (L.state ledger.new) }
 {
-    let Some(unshaped) = first_unshaped(request, response, failed) else {
-        let count = taken_count(request, response, places);
-        return take_along(alloc, ledger, rules, request, response, places, count);
+    let Some(unshaped) = first_unshaped(call.request, call.response, failed) else {
+        let count = taken_count(call.request, call.response, places);
+        return take_along(alloc, ledger, call, places, count);
     };
     let refusal = CallRefusal::Impossible(unshaped + 1, Why::BatchShape);
-    let shapes_first = is_unordered(request);
+    let shapes_first = is_unordered(call.request);
     if shapes_first {
         return Err(refusal);
     }
-    take_along(alloc, ledger, rules, request, response, None, unshaped)?;
+    take_along(alloc, ledger, call, None, unshaped)?;
     Err(refusal)
 }
 

@@ -13,20 +13,20 @@ use Rattle.kmipa_batch.proofs.along.take_along.Goals as goal
 pub returns-in-Err : goal.returns-in-Err
 returns-in-Err g c =
     let s : LedgerState = g.L.Ledger.state c.args.ledger.now in
-    let v : LedgerState = g.L.Ledger.state c.take_pair-taken.new.ledger in
-    let pairs = pairs_of (request_of c.args.request.now) (response_of c.args.response.now) in
+    let v : LedgerState = g.L.Ledger.state c.take_pair.new.ledger in
+    let pairs = pairs_of (request_of c.args.call.request.now) (response_of c.args.call.response.now) in
     let order = places_of (order_given (maybe_lent c.args.places)) c.args.count in
-    let P : CallRefusal → Type 0 = λ r. AlongTaken (rules_of c.args.rules.now) c.args.response.now.stamp s pairs order (Err r) v in
+    let P : CallRefusal → Type 0 = λ r. AlongTaken (rules_of c.args.call.rules.now) c.args.call.response.now.stamp s pairs order (Err r) v in
     subst P (sym c.reported_at.ensures)
-    (along_stops (rules_of c.args.rules.now) c.args.response.now.stamp s pairs order
+    (along_stops (rules_of c.args.call.rules.now) c.args.call.response.now.stamp s pairs order
     c.loop-position.position (g.L.Ledger.state c.loop-position.ledger) (placeholder_of c.loop-position.placeholder) c.loop-position.invariant
     c.place_at-place.result (order_at (maybe_lent c.args.places) c.args.count c.loop-position.position c.place_at-place.result c.loop-position-test.true c.place_at-place.ensures.there)
-    c.in-Err.refusal v (placeholder_of c.take_pair-taken.new.placeholder) c.in-Err.ensures)
+    c.in-Err.refusal v (placeholder_of c.take_pair.new.placeholder) c.in-Err.ensures)
 
 pub loop-position-preserved : goal.loop-position-preserved
 loop-position-preserved g c =
-    along_more (rules_of c.args.rules.now) c.args.response.now.stamp (g.L.Ledger.state c.args.ledger.now) (pairs_of (request_of c.args.request.now) (response_of c.args.response.now))
+    along_more (rules_of c.args.call.rules.now) c.args.call.response.now.stamp (g.L.Ledger.state c.args.ledger.now) (pairs_of (request_of c.args.call.request.now) (response_of c.args.call.response.now))
     (places_of (order_given (maybe_lent c.args.places)) c.args.count)
     c.loop-position.position (g.L.Ledger.state c.loop-position.ledger) (placeholder_of c.loop-position.placeholder) c.loop-position.invariant
     c.place_at-place.result (order_at (maybe_lent c.args.places) c.args.count c.loop-position.position c.place_at-place.result c.loop-position-test.true c.place_at-place.ensures.there)
-    (g.L.Ledger.state c.take_pair-taken.new.ledger) (placeholder_of c.take_pair-taken.new.placeholder) c.in_default.ensures
+    (g.L.Ledger.state c.take_pair.new.ledger) (placeholder_of c.take_pair.new.placeholder) c.in_default.ensures

@@ -7,4 +7,4 @@ use Rattle.kmipa_batch.proofs.RunLemmas.{Along}
 use Rattle.kmipa_batch.proofs.along.take_along.Given as goal
 
 abbrev pub invariant-loop-position : goal.invariant-loop-position
-invariant-loop-position g l = Along (rules_of l.rules) l.response.stamp (g.L.Ledger.state l.fn.ledger) (pairs_of (request_of l.request) (response_of l.response)) (places_of (order_given (maybe_lent l.fn.places)) l.fn.count) l.position (g.L.Ledger.state l.ledger) (placeholder_of l.placeholder)
+invariant-loop-position g l = Along (rules_of l.call.rules.now) l.call.response.now.stamp (g.L.Ledger.state l.fn.ledger) (pairs_of (request_of l.call.request.now) (response_of l.call.response.now)) (places_of (order_given (maybe_lent l.fn.places)) l.fn.count) l.position (g.L.Ledger.state l.ledger) (placeholder_of l.placeholder)
