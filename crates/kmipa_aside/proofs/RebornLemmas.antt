@@ -7,10 +7,10 @@ use Rattle.kmipa_object.specs.Lists.{updated}
 use Rattle.kmipa_object.specs.declared.life.Material.TheVariants.{Secret}
 use Rattle.kmipa_object.specs.declared.life.SecretNo.{SecretNo}
 use Rattle.kmipa_object.proofs.ListLemmas.{get-append_last, map-updated}
-use Rattle.kmipa_store.specs.Ledger.{Held, Known, LedgerState, Meaning, cards_of, changed, id_at, learned, with_aside, with_secret}
+use Rattle.kmipa_store.specs.Ledger.{Held, Known, LedgerState, Meaning, cards_of, changed, id_at, with_aside}
 use Rattle.kmipa_store.specs.Choices.{Choice, IsSound, inv, thing}
 use Rattle.kmipa_store.specs.Soundness.{Fits}
-use Rattle.kmipa_store.proofs.ChoiceLemmas.{extends_push, told-last}
+use Rattle.kmipa_store.proofs.ChoiceLemmas.{extends_push}
 use Rattle.kmipa_store.proofs.InventoryLemmas.{inv-append, inv-same, place_found}
 use Rattle.kmipa_store.proofs.SoundLemmas.{InRange-extends, number_below, sound_aside, sound_renewed, updated_from}
 use Rattle.kmipa_msgs.specs.Messages.{RulesOf, AskedOf, AskOf, AnswerOf, PayloadOf, created, creates, operation_asked, registered, registers}
@@ -171,14 +171,6 @@ pub id_found : (m : Meaning) (id : List ℕ) (place : ℕ) → body_of (stand_in
 id_found m id place e =
     let b = buried m id place e in
     ap (option_map (λ (h : Held). h.card.id)) b.at ∙ ap (λ (x : List ℕ). Some x) (sym b.same)
-
--- a new secret whose bytes are told
-pub known_made : (s : LedgerState) (rule : Rule) (bytes : List ℕ) (known : Option (List ℕ)) (n : ℕ) (v u : LedgerState) → known ≡ Some bytes → n ≡ length s.now.secrets → v ≡ with_secret s rule
-    → u ≡ learned v n bytes → u ≡ changed s (record { objects = s.now.objects; secrets = s.now.secrets ++ record { rule = rule; bytes = known } ∷ []; aside = s.now.aside })
-known_made s rule bytes known n v u is number made learns =
-    let C : List Known → LedgerState = λ ss. changed s (record { objects = s.now.objects; secrets = ss; aside = s.now.aside }) in
-    learns ∙ ap (λ (x : LedgerState). learned x n bytes) made ∙ ap (λ (k : ℕ). learned (with_secret s rule) k bytes) number
-    ∙ ap C (told-last s.now.secrets (record { rule = rule; bytes = None }) bytes) ∙ ap (λ (k : Option (List ℕ)). C (s.now.secrets ++ record { rule = rule; bytes = k } ∷ [])) (sym is)
 
 -- ---- a birth in the place of a body
 

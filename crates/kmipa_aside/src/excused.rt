@@ -11,6 +11,7 @@ ghost use Rattle.std.specs.Prelude.{◌≡◌};
 use crate::case::Case;
 use crate::cases::{case_of, is_done_change};
 use crate::frame::frame_why;
+use crate::item::Item;
 use crate::setting::set_all;
 use kmipa_msgs::{Answer, Ask, Rules};
 use kmipa_ops::Refusal;
@@ -18,23 +19,25 @@ use kmipa_passed::Held;
 use kmipa_store::Ledger;
 use std::alloc::{AllocError, Global};
 
-/// Takes a judged item that is excused, at the moment `t`, in seconds since 1970-01-01T00:00:00Z, and answers what the ID
-/// Placeholder holds behind it, where it held this. None where the item is judged as ever, and then nothing is done. It is refused where the
-/// answer names another operation or another item, and nothing is changed then. After want of memory the ledger can be taken back to
-/// each of its marks.
+/// Takes a judged item that is excused, and answers what the ID Placeholder holds behind it. None where the item is judged as ever, and then nothing
+/// is done. It is refused where the answer names another operation or another item, and nothing is changed then. After want of memory the ledger can
+/// be taken back to each of its marks.
 pub fn take_excused<'p, L: Ledger>(
     alloc: Global,
     ledger: &mut L,
     rules: &Rules,
-    t: i64,
-    before: Held<'p>,
-    ask: &'p Ask<'p>,
-    answer: &'p Answer<'p>,
+    item: Item<'p>,
 ) -> Result<Option<Held<'p>>, Refusal>
     requires { IsSound (L.state ledger.old).now }
-    ensures { TakenExcused (rules_of rules.now) (L.state ledger.old) (held_of before.entry) t (ask_of ask.now)
-        (answer_of answer.now) result (L.state ledger.new) }
+    ensures { TakenExcused (rules_of rules.now) (L.state ledger.old) (held_of item.entry.before) item.entry.moment
+        (ask_of item.entry.ask.now) (answer_of item.entry.answer.now) result (L.state ledger.new) }
 {
+    let Item {
+        moment,
+        before,
+        ask,
+        answer,
+    } = item;
     let case = case_of(ledger, rules, before, ask, answer);
     if is_as_ever(case) {
         return Ok(None);
@@ -42,7 +45,7 @@ pub fn take_excused<'p, L: Ledger>(
     if let Some(why) = frame_why(ask, answer) {
         return Err(Refusal::Impossible(why));
     }
-    match leave(alloc, ledger, t, case, ask, answer) {
+    match leave(alloc, ledger, moment, case, ask, answer) {
         Ok(()) => Ok(Some(held_behind(case, before))),
         Err(_) => Err(Refusal::Memory),
     }

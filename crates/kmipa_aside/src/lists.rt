@@ -15,6 +15,7 @@ ghost use Rattle.kmipa_aside.specs.Taking.{TakenListing};
 use crate::beside::Beside;
 use crate::cases::case_of;
 use crate::excused::is_as_ever;
+use crate::item::Item;
 use crate::plain::{held_behind, judged_by};
 use crate::standing::is_aside;
 use kmipa_attrs::Filter;
@@ -25,24 +26,26 @@ use kmipa_store::Ledger;
 use std::alloc::{AllocError, Global};
 use std::collections::BTreeSet;
 
-/// Takes a Locate that lists identifiers that are set aside, and is judged as ever, at the moment `t`, in seconds since 1970-01-01T00:00:00Z, and
-/// answers what the ID Placeholder holds behind it, where it held this. None of another item, and then nothing is done. It is refused where
-/// something is listed twice, or where kmipa_ops refuses what is listed beside them, and nothing is changed then. After want of memory the ledger can
-/// be taken back to each of its marks.
+/// Takes a Locate that lists identifiers that are set aside, and is judged as ever, and answers what the ID Placeholder holds behind it. None of
+/// another item, and then nothing is done. It is refused where something is listed twice, or where kmipa_ops refuses what is listed beside them, and
+/// nothing is changed then. After want of memory the ledger can be taken back to each of its marks.
 pub fn take_listing<'p, L: Ledger>(
     alloc: Global,
     ledger: &mut L,
     rules: &Rules,
-    t: i64,
-    before: Held<'p>,
-    ask: &'p Ask<'p>,
-    answer: &'p Answer<'p>,
+    item: Item<'p>,
 ) -> Result<Option<Held<'p>>, Refusal>
     requires sound { IsSound (L.state ledger.old).now }
-    requires readable { is_readable (ask_of ask.now) (answer_of answer.now) ≡ true }
-    ensures { TakenListing (rules_of rules.now) (L.state ledger.old) (held_of before.entry) t (ask_of ask.now)
-        (answer_of answer.now) result (L.state ledger.new) }
+    requires readable { is_readable (ask_of item.ask.now) (answer_of item.answer.now) ≡ true }
+    ensures { TakenListing (rules_of rules.now) (L.state ledger.old) (held_of item.entry.before) item.entry.moment
+        (ask_of item.entry.ask.now) (answer_of item.entry.answer.now) result (L.state ledger.new) }
 {
+    let Item {
+        moment,
+        before,
+        ask,
+        answer,
+    } = item;
     if !is_listing(ledger, rules, before, ask, answer) {
         return Ok(None);
     }
@@ -63,7 +66,7 @@ pub fn take_listing<'p, L: Ledger>(
         ledger,
         rules,
         &mut placeholder,
-        t,
+        moment,
         &beside.ask,
         &beside.answer,
     ) {

@@ -14,6 +14,7 @@ ghost use Rattle.kmipa_aside.specs.Taking.{TakenAsEver, TakenPlain};
 use crate::aims::{id_shown, or_shown};
 use crate::cases::case_of;
 use crate::excused::is_as_ever;
+use crate::item::Item;
 use crate::lists::is_touched;
 use crate::reborn::has_grave;
 use kmipa_msgs::{Answer, Ask, Payload, Rules, Status};
@@ -22,28 +23,24 @@ use kmipa_passed::Held;
 use kmipa_store::Ledger;
 use std::alloc::{AllocError, Global};
 
-/// Takes a judged item that is judged as ever, that lists nothing that is set aside, and whose new object has no body's identifier, at the moment `t`, in seconds since 1970-01-01T00:00:00Z,
-/// and answers what the ID Placeholder holds behind it, where it held this. None of another, and then nothing is done. The identifier of a new object
-/// isn't set aside any more. It is refused as kmipa_ops refuses it, and nothing is changed then. After want of memory the ledger can be taken back to
-/// each of its marks.
+/// Takes a judged item that is judged as ever, that lists nothing that is set aside, and whose new object has no body's identifier, and answers what
+/// the ID Placeholder holds behind it. None of another, and then nothing is done. The identifier of a new object isn't set aside any more. It is
+/// refused as kmipa_ops refuses it, and nothing is changed then. After want of memory the ledger can be taken back to each of its marks.
 pub fn take_plain<'p, L: Ledger>(
     alloc: Global,
     ledger: &mut L,
     rules: &Rules,
-    t: i64,
-    before: Held<'p>,
-    ask: &'p Ask<'p>,
-    answer: &'p Answer<'p>,
+    item: Item<'p>,
 ) -> Result<Option<Held<'p>>, Refusal>
     requires sound { IsSound (L.state ledger.old).now }
-    requires readable { is_readable (ask_of ask.now) (answer_of answer.now) ≡ true }
-    ensures { TakenPlain (rules_of rules.now) (L.state ledger.old) (held_of before.entry) t (ask_of ask.now)
-        (answer_of answer.now) result (L.state ledger.new) }
+    requires readable { is_readable (ask_of item.ask.now) (answer_of item.answer.now) ≡ true }
+    ensures { TakenPlain (rules_of rules.now) (L.state ledger.old) (held_of item.entry.before) item.entry.moment
+        (ask_of item.entry.ask.now) (answer_of item.entry.answer.now) result (L.state ledger.new) }
 {
-    if !is_plain(ledger, rules, before, ask, answer) {
+    if !is_plain(ledger, rules, item.before, item.ask, item.answer) {
         return Ok(None);
     }
-    match take_as_ever(alloc, ledger, rules, t, before, ask, answer) {
+    match take_as_ever(alloc, ledger, rules, item) {
         Ok(after) => Ok(Some(after)),
         Err(refusal) => Err(refusal),
     }
@@ -54,22 +51,25 @@ pub(crate) fn take_as_ever<'p, L: Ledger>(
     alloc: Global,
     ledger: &mut L,
     rules: &Rules,
-    t: i64,
-    before: Held<'p>,
-    ask: &'p Ask<'p>,
-    answer: &'p Answer<'p>,
+    item: Item<'p>,
 ) -> Result<Held<'p>, Refusal>
     requires sound { IsSound (L.state ledger.old).now }
-    requires readable { is_readable (ask_of ask.now) (answer_of answer.now) ≡ true }
-    requires plain { is_plain (rules_of rules.now) (stand_in (L.state ledger.old).now) (held_of before)
-        (ask_of ask.now) (answer_of answer.now) ≡ true }
-    ensures { TakenAsEver (rules_of rules.now) (L.state ledger.old) (held_of before.entry) t (ask_of ask.now)
-        (answer_of answer.now) result (L.state ledger.new) }
+    requires readable { is_readable (ask_of item.ask.now) (answer_of item.answer.now) ≡ true }
+    requires plain { is_plain (rules_of rules.now) (stand_in (L.state ledger.old).now) (held_of item.before)
+        (ask_of item.ask.now) (answer_of item.answer.now) ≡ true }
+    ensures { TakenAsEver (rules_of rules.now) (L.state ledger.old) (held_of item.entry.before) item.entry.moment
+        (ask_of item.entry.ask.now) (answer_of item.entry.answer.now) result (L.state ledger.new) }
 {
+    let Item {
+        moment,
+        before,
+        ask,
+        answer,
+    } = item;
     let Ok(mut placeholder) = judged_by(alloc, before, answer) else {
         return Err(Refusal::Memory);
     };
-    match take(alloc, ledger, rules, &mut placeholder, t, ask, answer) {
+    match take(alloc, ledger, rules, &mut placeholder, moment, ask, answer) {
         Ok(()) => {}
         Err(refusal) => return Err(refusal),
     }

@@ -1,14 +1,10 @@
 //! A new object that takes the place of a body.
 
-ghost use Rattle.std.specs.Prelude.{◌≡◌, ◌<◌, IfSome, None, Some, is_some, length, slice_get, true};
-ghost use Rattle.kmipa_attrs.specs.ObjectTypes.{type_number};
+ghost use Rattle.std.specs.Prelude.{◌≡◌, ◌<◌, IfSome, Some, is_some, length, slice_get, true};
 ghost use Rattle.kmipa_attrs.specs.Sets.{attributes_of};
-ghost use Rattle.kmipa_object.specs.Inventory.{rule_of};
-ghost use Rattle.kmipa_object.specs.Life.{dates_of};
 ghost use Rattle.kmipa_store.specs.Choices.{IsSound};
 ghost use Rattle.kmipa_store.specs.Ledger.{cards_of, id_at};
-ghost use Rattle.kmipa_msgs.specs.Messages.{answer_of, ask_of, lent, maybe_lent, rules_of};
-ghost use Rattle.kmipa_ops.specs.Adding.{MakesOwn};
+ghost use Rattle.kmipa_msgs.specs.Messages.{answer_of, ask_of, lent, rules_of};
 ghost use Rattle.kmipa_ops.specs.Explains.{is_readable};
 ghost use Rattle.kmipa_passed.specs.Leaving.{held_of};
 ghost use Rattle.kmipa_aside.specs.Becoming.{stand_in};
@@ -20,35 +16,39 @@ use crate::birth::Birth;
 use crate::births::{attributes_born, birth, brings_bytes, has_bytes};
 use crate::cases::case_of;
 use crate::excused::is_as_ever;
+use crate::item::Item;
 use crate::names::is_name_taken;
 use crate::plain::take_in;
 use crate::standing::is_aside;
 use kmipa_attrs::AttrSet;
 use kmipa_msgs::{Answer, Ask, Rules};
-use kmipa_object::{Life, Material, Object, Rule, SecretNo};
-use kmipa_ops::{Refusal, Why, clash_bytes, is_other_number};
+use kmipa_object::{Object, Rule};
+use kmipa_ops::{Refusal, Why, clash_bytes, is_other_number, new_life, new_own};
 use kmipa_passed::Held;
 use kmipa_store::Ledger;
 use std::alloc::{AllocError, Global};
 
-/// Takes a judged item that is judged as ever and whose new object has the identifier of a body, at the moment `t`, in seconds since
-/// 1970-01-01T00:00:00Z, and answers what the ID Placeholder holds behind it. None of another item, and then nothing is done. The object takes the
-/// body's place, and its identifier isn't set aside any more. It is refused where kmipa_ops would refuse it if the body weren't there, and nothing is
-/// changed then. After want of memory the ledger can be taken back to each of its marks.
+/// Takes a judged item that is judged as ever and whose new object has the identifier of a body, and answers what the ID Placeholder holds behind it.
+/// None of another item, and then nothing is done. The object takes the body's place, and its identifier isn't set aside any more. It is refused where
+/// kmipa_ops would refuse it if the body weren't there, and nothing is changed then. After want of memory the ledger can be taken back to each of its
+/// marks.
 pub fn take_reborn<'p, L: Ledger>(
     alloc: Global,
     ledger: &mut L,
     rules: &Rules,
-    t: i64,
-    before: Held<'p>,
-    ask: &'p Ask<'p>,
-    answer: &'p Answer<'p>,
+    item: Item<'p>,
 ) -> Result<Option<Held<'p>>, Refusal>
     requires sound { IsSound (L.state ledger.old).now }
-    requires readable { is_readable (ask_of ask.now) (answer_of answer.now) ≡ true }
-    ensures { TakenReborn (rules_of rules.now) (L.state ledger.old) (held_of before.entry) t (ask_of ask.now)
-        (answer_of answer.now) result (L.state ledger.new) }
+    requires readable { is_readable (ask_of item.ask.now) (answer_of item.answer.now) ≡ true }
+    ensures { TakenReborn (rules_of rules.now) (L.state ledger.old) (held_of item.entry.before) item.entry.moment
+        (ask_of item.entry.ask.now) (answer_of item.entry.answer.now) result (L.state ledger.new) }
 {
+    let Item {
+        moment,
+        before,
+        ask,
+        answer,
+    } = item;
     let case = case_of(ledger, rules, before, ask, answer);
     if !is_as_ever(case) {
         return Ok(None);
@@ -66,7 +66,7 @@ pub fn take_reborn<'p, L: Ledger>(
         return Err(Refusal::Impossible(why));
     }
     brings_bytes(birth.new.material());
-    match bear(alloc, ledger, t, place, birth, attributes) {
+    match bear(alloc, ledger, moment, place, birth, attributes) {
         Ok(()) => {}
         Err(_) => return Err(Refusal::Memory),
     }
@@ -169,49 +169,6 @@ fn bear<'p, L: Ledger>(
     };
     match ledger.renew(place, object) {
         Ok(()) => Ok(()),
-        Err(_) => Err(AllocError),
-    }
-}
-
-/// The life of a new object: its Initial Date is the moment.
-fn new_life(t: i64, activation: Option<i64>, deactivation: Option<i64>, secret: SecretNo) -> Life
-    ensures dates { dates_of result
-        ≡ record {
-          initial = Some t;
-          activation = activation;
-          deactivation = deactivation;
-          destroy = None;
-          compromise =
-              None;
-        } }
-    ensures material { result.material ≡ Material.Secret secret }
-{
-    Life {
-        initial: Some(t),
-        activation,
-        deactivation,
-        destroy: None,
-        compromise: None,
-        material: Material::Secret(secret),
-    }
-}
-
-/// A new secret, of known bytes or unknown ones.
-fn new_own<L: Ledger>(
-    ledger: &mut L,
-    rule: Rule,
-    material: Option<&[u8]>,
-) -> Result<SecretNo, AllocError>
-    ensures { MakesOwn (L.state ledger.old) rule (maybe_lent material.entry) result (L.state ledger.new) }
-{
-    let Ok(secret) = ledger.new_secret(rule) else {
-        return Err(AllocError);
-    };
-    let Some(bytes) = material else {
-        return Ok(secret);
-    };
-    match ledger.learn(secret, bytes) {
-        Ok(()) => Ok(secret),
         Err(_) => Err(AllocError),
     }
 }

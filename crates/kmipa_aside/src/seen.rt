@@ -57,17 +57,15 @@ pub(crate) fn take_seen<'p, L: Ledger>(
         return Err(Refusal::Memory);
     };
     let Some(seen) = missing else {
-        return take_judged(alloc, ledger, sight.rules, moment, before, ask, answer);
+        return take_judged(alloc, ledger, sight.rules, item);
     };
-    match take_judged(
-        alloc,
-        ledger,
-        sight.rules,
+    let beside = Item {
         moment,
         before,
-        &seen.ask,
-        &seen.answer,
-    ) {
+        ask: &seen.ask,
+        answer: &seen.answer,
+    };
+    match take_judged(alloc, ledger, sight.rules, beside) {
         Ok(_) => Ok(held_behind(before, answer)),
         Err(refusal) => Err(refusal),
     }

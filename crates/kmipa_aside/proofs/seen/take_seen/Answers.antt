@@ -1,9 +1,11 @@
-use Rattle.std.proofs.Common.{◌∙◌, rules, sym}
+use Rattle.std.proofs.Common.{◌∙◌, refl, rules, subst, sym, ℤ}
 use mir.Syntax.{w64}
 use mir.Val.{SFits}
 use Rattle.std.proofs.lemmas.Int.{to_z-of_z}
 use Rattle.kmipa_msgs.specs.Messages.{answer_of, ask_of}
 use Rattle.kmipa_passed.specs.Leaving.{held_of}
+use Rattle.kmipa_aside.specs.Becoming.{stand_in}
+use Rattle.kmipa_aside.specs.Missed.{IsMissing}
 use Rattle.kmipa_aside.specs.Sights.{sight_of}
 use Rattle.kmipa_aside.proofs.SeenLemmas.{missed_readable, missed_refused, missed_taken, none_missed_taken, seen_denied, seen_undenied}
 use Rattle.kmipa_aside.proofs.seen.take_seen.Goals as goal
@@ -21,9 +23,12 @@ returns-in-None g c =
 pub returns-in_default-missing : goal.returns-in_default-missing
 returns-in_default-missing g c =
     let fits : SFits w64 c.args.item.moment = search rules in
-    none_missed_taken (sight_of c.args.sight) (ask_of c.args.item.ask.now) (answer_of c.args.item.answer.now) (g.L.Ledger.state c.args.ledger.now) (held_of c.args.item.before) _ c.args.item.moment
-    (to_z-of_z w64 c.args.item.moment fits) c.in-Ok.missing c.in-Ok.ensures c.in_default-missing.is (sym c.is_denied.ensures ∙ c.if-is_denied.false) c.take_judged.result
-    (g.L.Ledger.state c.take_judged.new.ledger) c.take_judged.ensures
+    let s = g.L.Ledger.state c.args.ledger.now in
+    let ask = ask_of c.args.item.ask.now in
+    let answer = answer_of c.args.item.answer.now in
+    let found = subst (λ (z : ℤ). IsMissing (sight_of c.args.sight) (stand_in s.now) z ask answer c.in-Ok.missing) (to_z-of_z w64 c.args.item.moment fits) c.in-Ok.ensures in
+    none_missed_taken (sight_of c.args.sight) ask answer s (held_of c.args.item.before) c.args.item.moment c.args.item.moment refl c.in-Ok.missing found c.in_default-missing.is
+    (sym c.is_denied.ensures ∙ c.if-is_denied.false) c.take_judged.result (g.L.Ledger.state c.take_judged.new.ledger) c.take_judged.ensures
 
 pub take_judged-requires-2-clause-readable : goal.take_judged-requires-2-clause-readable
 take_judged-requires-2-clause-readable g c =
