@@ -15,3 +15,6 @@ pub mod OneStepLemmas
 pub mod WitnessLemmas
 pub mod SameCallsLemmas
 pub mod AcceptedLemmas
+pub mod WholeLemmas
+pub mod EndingLemmas
+pub mod OwnershipLemmas

@@ -78,3 +78,9 @@ pub read_taken : (rules : RulesOf) (s u : LedgerState) (c : ReadOf) (places : Op
 read_taken rules s u c places (Ok k) t n = (took_read rules s u c (order_given places) (t empty), counted_read rules s u c (order_given places) (counts_of k) c.refused n)
 read_taken rules s u c places (Err (refusal.Impossible item why)) t n = (c, places, refl, t.0)
 read_taken rules s u c places (Err refusal.Memory) t n = tt
+
+-- the marks of a ledger stay, whatever a call comes to
+pub read_marks : {A : Type 0} (rules : RulesOf) (s : LedgerState) (c : ReadOf) (order : Option (List ℕ)) (r : Result A CallRefusal) (u : LedgerState) → CallTaken rules s c order r u → u.marks ≡ s.marks
+read_marks rules s c order (Ok counts) u t = (t empty).marks
+read_marks rules s c order (Err (refusal.Impossible item why)) u t = ap (λ (x : LedgerState). x.marks) t.1
+read_marks rules s c order (Err refusal.Memory) u t = ap (λ (x : LedgerState). x.marks) t

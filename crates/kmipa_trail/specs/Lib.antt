@@ -1,5 +1,6 @@
 pub mod Opening
 pub mod Owners
+pub mod Ownership
 pub mod Owning
 pub mod Leading
 pub mod Placing
@@ -7,6 +8,8 @@ pub mod Orders
 pub mod Tallies
 pub mod Told
 pub mod Verdicts
+pub mod Whole
+pub mod Ending
 pub mod Laws
 pub mod Summing
 pub mod Back

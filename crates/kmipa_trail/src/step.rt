@@ -29,7 +29,7 @@ use std::alloc::Global;
 
 /// Takes what a step takes, and answers how its items count: a call that can be read; or what one leaves that can't be, which is the same at
 /// any moment. Where it is impossible, its first impossible item is reported with the lowest reason. It is told whose the objects are behind the step.
-pub(crate) fn take_step<L: Ledger>(
+pub fn take_step<L: Ledger>(
     alloc: Global,
     ledger: &mut L,
     rules: &Rules,
@@ -38,8 +38,9 @@ pub(crate) fn take_step<L: Ledger>(
 ) -> Result<Counts, CallRefusal>
     requires sound { IsSound (L.state ledger.old).now }
     requires takable { IsTakable (step_of step.now).taken }
-    ensures { StepTaken (rules_of rules.now) (L.state ledger.old) (step_seen (map owned_of owners.now) (step_of step.now)).taken
+    ensures taken { StepTaken (rules_of rules.now) (L.state ledger.old) (step_seen (map owned_of owners.now) (step_of step.now)).taken
         result (L.state ledger.new) }
+    ensures marks { (L.state ledger.new).marks ≡ (L.state ledger.old).marks }
 {
     match &step.taken {
         Taken::Leaves(left, counts) => take_left(alloc, ledger, left, counts),
@@ -58,8 +59,9 @@ fn take_left<L: Ledger>(
     counts: &UnreadCounts,
 ) -> Result<Counts, CallRefusal>
     requires { IsSound (L.state ledger.old).now }
-    ensures { (rules : RulesOf) → StepTaken rules (L.state ledger.old)
+    ensures taken { (rules : RulesOf) → StepTaken rules (L.state ledger.old)
         (leaves (aside_of left.now) (unread_counts_of counts.now)) result (L.state ledger.new) }
+    ensures marks { (L.state ledger.new).marks ≡ (L.state ledger.old).marks }
 {
     match take_unread(alloc, ledger, 0, left) {
         Ok(()) => Ok(counts_of(counts)),
@@ -90,8 +92,9 @@ fn take_read<'p, L: Ledger>(
 ) -> Result<Counts, CallRefusal>
     requires sound { IsSound (L.state ledger.old).now }
     requires takable { IsTakable (takes (read_of call.now) (option_map items_of places.now)) }
-    ensures { StepTaken (rules_of sight.entry.rules.now) (L.state ledger.old)
+    ensures taken { StepTaken (rules_of sight.entry.rules.now) (L.state ledger.old)
         (takes (call_seen sight.entry call.now) (option_map items_of places.now)) result (L.state ledger.new) }
+    ensures marks { (L.state ledger.new).marks ≡ (L.state ledger.old).marks }
 {
     take_call(alloc, ledger, sight, call, lent(places))
 }

@@ -66,7 +66,7 @@ returns-in-Err g c = λ declared is known.
     subst P (sym c.refused_step.ensures)
     (replayed_refused declared order c.turns.turn c.turns.last (tally_of c.turns.tally) (g.L.Ledger.state c.turns.ledger) u (c.turns.invariant.replayed declared is known) step at
     c.first_late-late.result (late_seen v start steps c.first_late-late.result c.first_late-late.ensures) none (rules_of c.args.rules.now) c.in-Err.refusal is
-    (subst T c.as_slice.ensures.value c.in-Err.ensures))
+    (subst T c.as_slice.ensures.value c.in-Err.ensures.taken))
 
 pub turns-preserved : goal.turns-preserved
 turns-preserved g c = record {
@@ -93,12 +93,12 @@ turns-preserved g c = record {
       (subst L (sym last)
       (replayed_more declared order c.turns.turn c.turns.last (tally_of c.turns.tally) (g.L.Ledger.state c.turns.ledger) u (c.turns.invariant.replayed declared is known) step at
       c.first_late-late.result (late_seen v start steps c.first_late-late.result c.first_late-late.ensures) none (rules_of c.args.rules.now) c.in-Ok.counts is
-      (subst T c.as_slice.ensures.value c.in-Ok.ensures)));
+      (subst T c.as_slice.ensures.value c.in-Ok.ensures.taken)));
   left =
       let there = mapped_at step_of c.args.steps.now c.turns.turn c.index-steps-turn.result c.turns-test.true c.index-steps-turn.is in
       seen_past c.args.rules.now.visibility (map owned_of c.args.owners.items) (map step_of c.args.steps.now) c.turns.turn (step_of c.index-steps-turn.result) there
       (map owned_of c.turns.owners.items) (map owned_of c.own_births.new.owners.items) c.turns.invariant.left c.in_ok-own_births.ensures;
-  sound = c.in-Ok.ensures.0.sound;
+  sound = c.in-Ok.ensures.taken.0.sound;
   within = c.with-tally.ensures.within c.turns.turn c.turns.invariant.within;
 }
 
