@@ -19,8 +19,8 @@ use Rattle.kmipa_trail.specs.Tallies.{TallyOf}
 use Rattle.kmipa_trail.specs.Told.{tally_of}
 use Rattle.kmipa_trail.specs.declared.verdict.Verdict.{Verdict}
 use Rattle.kmipa_trail.specs.declared.verdict.Verdict.TheVariants.{Yes, No}
-use Rattle.kmipa_beside.specs.Audits.{AreAcceptedBeside, AreJudgedBeside}
-use Rattle.kmipa_beside.specs.Lines.{PrintsOutcome, PrintsVerdict, yes_status}
+use Rattle.kmipa_beside.specs.Audits.{AreAcceptedBeside, AreAcceptedInSight, AreJudgedBeside, AreJudgedInSight}
+use Rattle.kmipa_beside.specs.Lines.{PrintsInSight, PrintsVerdict, yes_status}
 
 -- a status without a verdict
 abbrev EndsSo : Status → Type 0
@@ -63,14 +63,16 @@ never_no fault said lines told is = subst EndsSo is (told_ends fault said lines 
 
 -- ---- a verdict
 
-pub verdict_printed : (made : Result Lines AllocError) (v : Verdict) (said : Status) (lines : List ℕ) → IfOk made (λ l. PrintsVerdict v l.status (string_bytes l.text))
-    → IsOkAnd made (λ l. (said ≡ l.status) × (lines ≡ string_bytes l.text)) ⊎ IsSilent said lines → PrintsVerdict v said lines ⊎ IsSilent said lines
-verdict_printed made v said lines reported (inr silent) = inr silent
-verdict_printed (Ok l) v said lines reported (inl p) =
-    let P : Status → Type 0 = λ s. PrintsVerdict v s lines in
-    let Q : List ℕ → Type 0 = λ t. PrintsVerdict v l.status t in
+-- whatever the lines of a verdict are to be
+pub verdict_printed : (Prints : Verdict → Status → List ℕ → Type 0) (made : Result Lines AllocError) (v : Verdict) (said : Status) (lines : List ℕ)
+    → IfOk made (λ l. Prints v l.status (string_bytes l.text)) → IsOkAnd made (λ l. (said ≡ l.status) × (lines ≡ string_bytes l.text)) ⊎ IsSilent said lines
+    → Prints v said lines ⊎ IsSilent said lines
+verdict_printed Prints made v said lines reported (inr silent) = inr silent
+verdict_printed Prints (Ok l) v said lines reported (inl p) =
+    let P : Status → Type 0 = λ s. Prints v s lines in
+    let Q : List ℕ → Type 0 = λ t. Prints v l.status t in
     inl (subst P (sym p.0) (subst Q (sym p.1) reported))
-verdict_printed (Err e) v said lines reported (inl p) = absurd p
+verdict_printed Prints (Err e) v said lines reported (inl p) = absurd p
 
 -- status 0 is that of a yes by which nothing is set aside by the witness alone
 done_alone : (k : TallyOf) → yes_status k ≡ status.Done → k.excepted ≡ 0
@@ -93,3 +95,11 @@ accepts_yes t d w (Yes tally) said lines j (inl p) done = (
 pub accepts_done : (t d w : List ℕ) (v : Verdict) (said : Status) (lines : List ℕ) → AreJudgedBeside t d w v → PrintsVerdict v said lines ⊎ IsSilent said lines → said ≡ status.Done
     → (tally : TallyOf) × (tally.excepted ≡ 0) × AreAcceptedBeside t d w tally
 accepts_done = accepts_yes
+
+-- where nothing is set aside, it is that of each yes
+pub accepts_sighted : (t d w : List ℕ) (v : Verdict) (said : Status) (lines : List ℕ) → AreJudgedInSight t d w v → PrintsInSight v said lines ⊎ IsSilent said lines → said ≡ status.Done
+    → AreAcceptedInSight t d w
+accepts_sighted t d w v said lines j (inr silent) done = let clash : status.Failed ≡ status.Done = sym silent.0 ∙ done in absurd cc
+accepts_sighted t d w (No r stamp) said lines j (inl p) done = let clash : status.No ≡ status.Done = sym p.0 ∙ done in absurd cc
+accepts_sighted t d w (Yes tally) said lines j (inl p) done =
+    record { marks = j.marks; transcript = j.transcript; declared = j.declared; declaration = j.declaration; turns = j.turns; witness = j.witness; accepted = j.told }

@@ -12,14 +12,14 @@ use Rattle.kmipa_jobs.specs.declared.status.Status.{Status}
 use Rattle.kmipa_jobs.specs.declared.status.Status.TheVariants as status
 use Rattle.kmipa_trail.specs.Tallies.{TallyOf}
 use Rattle.kmipa_trail.specs.declared.verdict.Verdict.{Verdict}
-use Rattle.kmipa_beside.specs.Audits.{AreAcceptedBeside, Audits, FailsFirst, SetsAside, SetsNothingAside}
-use Rattle.kmipa_beside.specs.Lines.{PrintsOutcome}
+use Rattle.kmipa_beside.specs.Audits.{AreAcceptedBeside, AreAcceptedInSight, Audits, AuditsInSight, FailsFirst, HidesAlone, SetsAside, SetsNothingAside}
+use Rattle.kmipa_beside.specs.Lines.{PrintsOutcome, PrintsOutcomeInSight}
 
 -- the bytes that came, to the ends that were seen, are all there
 abbrev pub AreEnded : {R : Type 0} → Input R → Input R → Input R → Type 0
 AreEnded t d w = IsTrue (is_ended t) × IsTrue (is_ended d) × IsTrue (is_ended w)
 
--- Where nothing is set aside: the lines of the verdict, or of the fault.
+-- Where nothing is set aside, and clients see every object: the lines of the verdict, or of the fault.
 pub record ChecksAsEver {R : Type 0} (t d w : Input R) (said : Status) (lines : List ℕ) : Type 0 where
   -- they tell what an audit answers of whatever the files may be, or memory ran out
   pub prints : (outcome : Result ever.Verdict AuditFault)
@@ -43,7 +43,15 @@ pub record ChecksBeside {R : Type 0} (t d w : Input R) (said : Status) (lines : 
   pub accepts : said ≡ status.Done
       → ((tally : TallyOf) × (tally.excepted ≡ 0) × AreAcceptedBeside (came_of t) (came_of d) (came_of w) tally) × AreEnded t d w
 
--- The declaration is none, or beyond what calls are judged by: the fault of the first file is told.
+-- Where what isn't judged ends the audit, and a server may hide the objects of other clients, or has to.
+pub record ChecksSighted {R : Type 0} (t d w : Input R) (said : Status) (lines : List ℕ) : Type 0 where
+  pub prints : (outcome : Result Verdict AuditFault)
+      × ((a b c : List ℕ) → IsFileOf a t → IsFileOf b d → IsFileOf c w → AuditsInSight a b c (is_failed t) (is_failed w) outcome)
+      × (PrintsOutcomeInSight outcome said lines ⊎ IsSilent said lines)
+  -- status 0 is answered only where they are accepted
+  pub accepts : said ≡ status.Done → AreAcceptedInSight (came_of t) (came_of d) (came_of w) × AreEnded t d w
+
+-- The declaration is none: the fault of the first file is told.
 pub record ChecksNothing {R : Type 0} (t d : Input R) (said : Status) (lines : List ℕ) : Type 0 where
   pub fault : AuditFault
   pub fails : (a b : List ℕ) → IsFileOf a t → IsFileOf b d → FailsFirst a b (is_failed t) (is_failed d) fault
@@ -53,5 +61,6 @@ pub record ChecksNothing {R : Type 0} (t d : Input R) (said : Status) (lines : L
 -- THE DEFINITION
 pub data ChecksAny {R : Type 0} (t d w : Input R) (said : Status) (lines : List ℕ) : Type 0 where
   as_ever : (declared : DeclarationOf) → SetsNothingAside (came_of d) declared → ChecksAsEver t d w said lines → ChecksAny t d w said lines
+  in_sight : (declared : DeclarationOf) → HidesAlone (came_of d) declared → ChecksSighted t d w said lines → ChecksAny t d w said lines
   beside : (declared : DeclarationOf) → SetsAside (came_of d) declared → ChecksBeside t d w said lines → ChecksAny t d w said lines
   undeclared : ChecksNothing t d said lines → ChecksAny t d w said lines

@@ -2,3 +2,4 @@ pub mod Audits
 pub mod Lines
 pub mod Checks
 pub mod Owners
+pub mod Ways

@@ -3,7 +3,7 @@ use Rattle.std.specs.Prelude.{◌≡◌, ◌==◌, ℕ, ◌+◌, ℤ, if◌then�
 use Rattle.std.specs.Fmt.{decimal}
 use Rattle.kmipa_bundle.specs.Counts.{CountsOf, total}
 use Rattle.kmipa_check.specs.declared.auditing.AuditFault.{AuditFault}
-use Rattle.kmipa_runs.specs.Lines.{PrintsDate, PrintsFault, line, no_line}
+use Rattle.kmipa_runs.specs.Lines.{PrintsDate, PrintsFault, line, no_line, yes_line}
 use Rattle.kmipa_jobs.specs.declared.status.Status.{Status}
 use Rattle.kmipa_jobs.specs.declared.status.Status.TheVariants as status
 use Rattle.kmipa_trail.specs.Tallies.{TallyOf}
@@ -44,3 +44,12 @@ PrintsVerdict (No refused stamp) said lines = (said ≡ status.No) × ((dated : 
 abbrev pub PrintsOutcome : Result Verdict AuditFault → Status → List ℕ → Type 0
 PrintsOutcome (Ok verdict) said lines = PrintsVerdict verdict said lines
 PrintsOutcome (Err fault) said lines = PrintsFault fault said lines
+
+-- Where what isn't judged ends the audit, all items of a yes are judged, and nothing is printed of how many they are.
+abbrev pub PrintsInSight : Verdict → Status → List ℕ → Type 0
+PrintsInSight (Yes tally) said lines = (said ≡ status.Done) × (lines ≡ yes_line)
+PrintsInSight (No refused stamp) said lines = PrintsVerdict (No refused stamp) said lines
+
+abbrev pub PrintsOutcomeInSight : Result Verdict AuditFault → Status → List ℕ → Type 0
+PrintsOutcomeInSight (Ok verdict) said lines = PrintsInSight verdict said lines
+PrintsOutcomeInSight (Err fault) said lines = PrintsFault fault said lines

@@ -1,4 +1,4 @@
-//! Checks of three inputs, whether or not their declaration sets aside what isn't judged.
+//! Checks of three inputs, whether or not their declaration sets aside what isn't judged, or hides objects.
 #![tactic(auto)]
 
 mod auditing;
@@ -7,6 +7,7 @@ mod lines;
 mod named;
 mod owners;
 mod running;
+mod way;
 
 pub use lines::{judged_line, stamp_line};
 pub use running::check_any_run;

@@ -1,7 +1,7 @@
 //! The lines of a verdict where some of what was recorded isn't judged.
 
 ghost use Rattle.std.specs.Prelude.{◌≡◌, ◌+◌, IfOk, string_bytes};
-ghost use Rattle.kmipa_beside.specs.Lines.{PrintsStamp, PrintsVerdict, aside_part, counts_line, first_line, judged_line, yes_status};
+ghost use Rattle.kmipa_beside.specs.Lines.{PrintsInSight, PrintsStamp, PrintsVerdict, aside_part, counts_line, first_line, judged_line, yes_status};
 ghost use Rattle.kmipa_bundle.specs.Counts.{total};
 ghost use Rattle.kmipa_runs.specs.Lines.{no_line};
 ghost use Rattle.kmipa_trail.specs.Told.{tally_of};
@@ -33,6 +33,19 @@ pub(crate) fn verdict_lines(alloc: Global, verdict: &Verdict) -> Result<Lines, A
                 status: Status::No,
             })
         }
+    }
+}
+
+/// The same where what isn't judged ends the audit: without the line of how many items were judged.
+pub(crate) fn sighted_lines(alloc: Global, verdict: &Verdict) -> Result<Lines, AllocError>
+    ensures { IfOk result (λ lines. PrintsInSight verdict.now lines.status (string_bytes lines.text)) }
+{
+    match verdict {
+        Verdict::Yes(_) => Ok(Lines {
+            text: String::from_str(alloc, "yes\n")?,
+            status: Status::Done,
+        }),
+        Verdict::No(_, _) => verdict_lines(alloc, verdict),
     }
 }
 

@@ -1,9 +1,12 @@
-use Rattle.std.proofs.Common.{ℤ, List, Option, String, length, map, option_map, string_bytes, sym, ap, ◌∙◌, rules}
+use Rattle.std.proofs.Common.{ℤ, List, Option, String, length, map, option_map, string_bytes, subst, sym, ap, ◌∙◌, rules}
 use Rattle.std.specs.Global.{Global}
 use mir.Val.{SFits}
 use mir.Syntax.{w32}
 use Rattle.std.proofs.lemmas.Int.{to_z-of_z}
 use Rattle.kmipa_msgs.specs.Messages.{rules_of}
+use Rattle.kmipa_msgs.specs.declared.rules.Unjudged.{Unjudged}
+use Rattle.kmipa_record.specs.Transcripts.{transcript_of}
+use Rattle.kmipa_record.specs.Witnesses.{witness_of}
 use Rattle.kmipa_store.specs.Ledger.{cards_of}
 use Rattle.kmipa_store.specs.States.{state_of_journal}
 use Rattle.kmipa_record.specs.declared.settings.Settings.{Settings}
@@ -11,14 +14,15 @@ use Rattle.kmipa_record.specs.declared.own_attribute.OwnAttribute.{OwnAttribute}
 use Rattle.kmipa_check.specs.Grants.{GrantsOf}
 use Rattle.kmipa_stream.proofs.OpeningLemmas.{rules_opened}
 use Rattle.kmipa_trail.specs.Owners.{owners_at_first}
+use Rattle.kmipa_beside.specs.Audits.{ChecksUnder}
 use Rattle.kmipa_beside.specs.Owners.{named_from, named_of, owned_as, owners_by}
 use Rattle.kmipa_beside.specs.declared.named.Named.{Named}
 use Rattle.kmipa_beside.proofs.OwnersLemmas.{owners_first, owners_long, owners_opened}
 use Rattle.kmipa_beside.proofs.DeclaredLemmas.{declared_known, declared_sound}
 use Rattle.kmipa_beside.proofs.auditing.check_declared.Goals as goal
 
-pub check_opened-requires : goal.check_opened-requires
-check_opened-requires c =
+pub check_under-requires : goal.check_under-requires
+check_under-requires c =
     let o = c.args.declared.opening in
     declared_sound o c.requires.0 c.requires.2 c.args.declared.settings c.requires.1 (state_of_journal c.set_rest_aside.new.ledger) c.set_rest_aside.ensures
 
@@ -41,9 +45,10 @@ returns c = λ given named opens recorded.
     let owners = c.in_ok-owners.ensures ∙ ap (λ (ns : List Named). owners_by settings.visibility (map owned_as (map named_of ns))) c.deref-2.ensures.value
     ∙ owners_first settings.visibility (map owned_as all) given.entries declared
     ∙ ap (λ (s : Settings). owners_at_first s.visibility given.entries) (sym named) in
-    c.check_opened.ensures given
+    let U : Unjudged → Type 0 = λ u. ChecksUnder u (transcript_of c.args.transcript.now) given (witness_of c.args.witness.now) c.check_under.result in
+    subst U (ap (λ (s : Settings). s.unjudged) (sym named)) (c.check_under.ensures given
     (rules_opened o given settings (rules_of c.in_ok-rules.rules) named opens c.in_ok-rules.ensures)
     grants
     owners
     (declared_known o given opens settings named (state_of_journal c.set_rest_aside.new.ledger) c.set_rest_aside.ensures)
-    recorded
+    recorded)
