@@ -1,4 +1,5 @@
--- What an item does to an inventory, its part on an object does to the inventory cut to that object.
+-- What an item does to an inventory, its part on some objects does to the inventory cut to those objects.
+use Rattle.std.specs.Prelude.{int_lt}
 use Rattle.std.proofs.Common.{◌≡◌, ◌≢◌, ◌<◌, ◌≤◌, ◌&&◌, ◌||◌, ◌==◌, ◌⊎◌, inl, inr, ℕ, zero, suc, ℤ, pos, negsuc, not, nat_lt, Bool, true, false, cond, List, [], ◌∷◌, length, bytes_eq, slice_get, Option, Some, None, MatchOption, option_map, Contains, refl, sym, ap, ◌∙◌, subst, arith}
 use Rattle.std.proofs.lemmas.Slice.Eq.{bytes_eq-Decides}
 use Rattle.kmipa_attrs.specs.Sets.{Attributes}
@@ -23,7 +24,7 @@ use Rattle.kmipa_ops.specs.Changes.{ChangesObject, change_deed, thing_after}
 use Rattle.kmipa_ops.specs.Create.{Creates, create_deed}
 use Rattle.kmipa_ops.specs.Get.{Gets, get_deed}
 use Rattle.kmipa_ops.specs.GetAttributes.{HasRequired, GetsAttributes, get_attributes_deed}
-use Rattle.kmipa_ops.specs.Locate.{Lists, Must, locate_deed, names_only, is_over}
+use Rattle.kmipa_ops.specs.Locate.{Lists, May, Must, locate_deed, names_only, is_full, is_over}
 use Rattle.kmipa_ops.specs.Register.{Registers, brought, register_deed}
 use Rattle.kmipa_ops.specs.declared.change.Change.{Change}
 use Rattle.kmipa_ops.specs.declared.change.Change.TheVariants.{Activate, Revoke, Destroy}
@@ -32,8 +33,8 @@ use Rattle.kmipa_ops.specs.Explains.{is_readable}
 use Rattle.kmipa_ops.specs.Does.{Succeeds, Outcome}
 use Rattle.kmipa_batch.proofs.ShapeLemmas.{less_or_not}
 use Rattle.kmipa_check.proofs.PlaceLemmas.{contains_at, at_contains, apart}
-use Rattle.kmipa_parts.specs.Parts.{cut, held_after, about, written, is_change, LeavesBe, failed, looks, elsewhere, IsIdle, only_this, TellsOf, IsPart, stays, lists, idle}
-use Rattle.kmipa_parts.proofs.CutLemmas.{id_tests, other_id, has_cut, free_cut, card_cut, card_in, none_in_cut, cut_added, cut_other, cut_changed, cut_kept, of_id}
+use Rattle.kmipa_parts.specs.Parts.{OwnOf, cut, held_after, about, written, is_change, is_own, LeavesBe, failed, looks, elsewhere, IsIdle, only_own, filter_own, IsPart, stays, lists, idle}
+use Rattle.kmipa_parts.proofs.CutLemmas.{stands_in, has_cut, free_cut, card_cut, card_in, none_in_cut, cut_added, cut_other, cut_kept, of_id}
 
 -- ---- what is known
 
@@ -68,47 +69,49 @@ required_part id g c shown h alive others =
 -- ---- each operation
 
 module _ (rules : RulesOf) (t : ℤ) (V V' : List Thing) (after : Option (List ℕ)) where
-  adds_part : (kind : ObjectType) (a : Attributes) (bytes : List ℕ) (x : RegisteredOf) → AddsObject rules V t kind a bytes x V' after
-      → AddsObject rules (cut x.id V) t kind a bytes x (cut x.id V') (Some x.id)
-  adds_part kind a bytes x h = record {
-    free = ap (λ (W : List Thing). place_of x.id (cards W)) (free_cut x.id V h.free);
-    names = taken_not rules.unique_names (any_live_named (cards V) a.names) (any_live_named (cards (cut x.id V)) a.names) h.names (none_in_cut x.id V (λ (c : Card). live c && is_named a.names c));
+  adds_part : (own : OwnOf) (kind : ObjectType) (a : Attributes) (bytes : List ℕ) (x : RegisteredOf) → own x.id ≡ true → AddsObject rules V t kind a bytes x V' after
+      → AddsObject rules (cut own V) t kind a bytes x (cut own V') (Some x.id)
+  adds_part own kind a bytes x is h = record {
+    free = free_cut own x.id V h.free;
+    names = taken_not rules.unique_names (any_live_named (cards V) a.names) (any_live_named (cards (cut own V)) a.names) h.names (none_in_cut own V (λ (c : Card). live c && is_named a.names c));
     admitted = h.admitted;
     echo = h.echo;
-    leaves = ap (cut x.id) h.leaves ∙ cut_added x.id V (record { card = newborn t x.id kind a; bytes = Some bytes }) refl h.free;
+    leaves = ap (cut own) h.leaves ∙ cut_added own V (record { card = newborn t x.id kind a; bytes = Some bytes }) is;
     placeholder = refl;
   }
 
-  adds_other : (id : List ℕ) (kind : ObjectType) (a : Attributes) (bytes : List ℕ) (x : RegisteredOf) → AddsObject rules V t kind a bytes x V' after → (id ≡ x.id → ⊥) → cut id V' ≡ cut id V
-  adds_other id kind a bytes x h apart = ap (cut id) h.leaves ∙ cut_other id V (record { card = newborn t x.id kind a; bytes = Some bytes }) apart
+  adds_other : (own : OwnOf) (kind : ObjectType) (a : Attributes) (bytes : List ℕ) (x : RegisteredOf) → AddsObject rules V t kind a bytes x V' after → own x.id ≡ false → cut own V' ≡ cut own V
+  adds_other own kind a bytes x h apart = ap (cut own) h.leaves ∙ cut_other own V (record { card = newborn t x.id kind a; bytes = Some bytes }) apart
 
   module _ (before : Option (List ℕ)) where
-    module _ (id : List ℕ) (now : Option (List ℕ)) where
+    module _ (own : OwnOf) (id : List ℕ) (is : own id ≡ true) (now : Option (List ℕ)) where
       changes_part : (asked : Option (List ℕ)) (change : Change) (shown : Option (List ℕ)) → meant asked before ≡ Some id → ChangesObject rules V before t asked change shown V' after
-          → ChangesObject rules (cut id V) now t (Some id) change shown (cut id V') now
+          → ChangesObject rules (cut own V) now t (Some id) change shown (cut own V') now
       changes_part asked change shown m h =
-          let P : List ℕ → Type 0 = λ i. ChangesObject rules (cut i V) now t (Some i) change shown (cut i V') now in
+          let s = stands_in own h.id V h.place h.object (ap own (same_some h.id id (sym h.about ∙ m)) ∙ is) h.there in
+          let P : List ℕ → Type 0 = λ i. ChangesObject rules (cut own V) now t (Some i) change shown (cut own V') now in
           subst P (same_some h.id id (sym h.about ∙ m)) (record {
             id = h.id;
-            place = 0;
+            place = s.at;
             object = h.object;
             about = refl;
-            there = has_cut h.id V h.place h.object h.there;
+            there = has_cut own h.id V h.place h.object s;
             may = h.may;
             echo = h.echo;
-            leaves = ap (cut h.id) h.leaves ∙ cut_changed (thing_after change t) (λ x. refl) h.id V h.place h.object h.there;
+            leaves = ap (cut own) h.leaves ∙ s.changed (thing_after change t) (λ x. refl);
             placeholder = refl;
           })
 
-      gets_part : (asked : Option (List ℕ)) (a : GotOf) → meant asked before ≡ Some id → Gets rules V before t asked a V' after → Gets rules (cut id V) now t (Some id) a (cut id V') now
+      gets_part : (asked : Option (List ℕ)) (a : GotOf) → meant asked before ≡ Some id → Gets rules V before t asked a V' after → Gets rules (cut own V) now t (Some id) a (cut own V') now
       gets_part asked a m h =
-          let P : List ℕ → Type 0 = λ i. Gets rules (cut i V) now t (Some i) a (cut i V') now in
+          let s = stands_in own h.id V h.place h.object (ap own (same_some h.id id (sym h.about ∙ m)) ∙ is) h.there in
+          let P : List ℕ → Type 0 = λ i. Gets rules (cut own V) now t (Some i) a (cut own V') now in
           subst P (same_some h.id id (sym h.about ∙ m)) (record {
             id = h.id;
-            place = 0;
+            place = s.at;
             object = h.object;
             about = refl;
-            there = has_cut h.id V h.place h.object h.there;
+            there = has_cut own h.id V h.place h.object s;
             alive = h.alive;
             may = h.may;
             bytes = h.bytes;
@@ -117,89 +120,91 @@ module _ (rules : RulesOf) (t : ℤ) (V V' : List Thing) (after : Option (List �
             algorithm = h.algorithm;
             length = h.length;
             echo = h.echo;
-            leaves = ap (cut h.id) h.leaves;
+            leaves = ap (cut own) h.leaves;
             placeholder = refl;
           })
 
       attributes_part : (g : GetAttributesOf) (a : GotAttributesOf) → meant g.id before ≡ Some id → GetsAttributes rules V before t g a V' after
-          → GetsAttributes rules (cut id V) now t (record g { id = Some id }) a (cut id V') now
+          → GetsAttributes rules (cut own V) now t (record g { id = Some id }) a (cut own V') now
       attributes_part g a m h =
-          let P : List ℕ → Type 0 = λ i. GetsAttributes rules (cut i V) now t (record g { id = Some i }) a (cut i V') now in
+          let s = stands_in own h.id V h.place h.object (ap own (same_some h.id id (sym h.about ∙ m)) ∙ is) h.there in
+          let P : List ℕ → Type 0 = λ i. GetsAttributes rules (cut own V) now t (record g { id = Some i }) a (cut own V') now in
           subst P (same_some h.id id (sym h.about ∙ m)) (record {
             id = h.id;
-            place = 0;
+            place = s.at;
             object = h.object;
             about = refl;
-            there = has_cut h.id V h.place h.object h.there;
+            there = has_cut own h.id V h.place h.object s;
             may = h.may;
             own = h.own;
             required = required_part h.id g h.object.card a.attributes h.required;
             echo = h.echo;
-            leaves = ap (cut h.id) h.leaves;
+            leaves = ap (cut own) h.leaves;
             placeholder = refl;
           })
 
-    changes_other : (id : List ℕ) (asked : Option (List ℕ)) (change : Change) (shown : Option (List ℕ)) → (meant asked before ≡ Some id → ⊥) → ChangesObject rules V before t asked change shown V' after → cut id V' ≡ cut id V
-    changes_other id asked change shown apart h =
-        ap (cut id) h.leaves
-        ∙ cut_kept (thing_after change t) (λ x. refl) id V h.place h.object h.there.stands
-        (other_id id h.object.card.id (λ e. apart (h.about ∙ ap Some (of_id V h.id h.place h.object h.there ∙ sym e))))
+    changes_other : (own : OwnOf) (asked : Option (List ℕ)) (change : Change) (shown : Option (List ℕ)) → is_own own (meant asked before) ≡ false → ChangesObject rules V before t asked change shown V' after
+        → cut own V' ≡ cut own V
+    changes_other own asked change shown apart h =
+        ap (cut own) h.leaves
+        ∙ cut_kept (thing_after change t) (λ x. refl) own V h.place h.object h.there.stands
+        (ap own (sym (of_id V h.id h.place h.object h.there)) ∙ sym (ap (is_own own) h.about) ∙ apart)
 
 -- ---- reasons
 
-holds_part : (rules : RulesOf) (V : List Thing) (id : List ℕ) (before now : Option (List ℕ)) (t : ℤ) (asked : Option (List ℕ)) (act : Act) (unjudged : Bool) (cause : Cause) → meant asked before ≡ Some id
-    → Holds rules (cards V) before t (on_object asked act unjudged) cause → Holds rules (cards (cut id V)) now t (on_object (Some id) act unjudged) cause
-holds_part rules V id before now t asked act true cause m h = tt
-holds_part rules V id before now t asked act false NotFound m h = λ c is alive. h c (ap (card_meant (cards V)) m ∙ card_cut id V ∙ is) alive
-holds_part rules V id before now t asked act false WrongState m h = (h.0, sym (card_cut id V) ∙ sym (ap (card_meant (cards V)) m) ∙ h.1, h.2)
-holds_part rules V id before now t asked act false TakenName m h = tt
+holds_part : (rules : RulesOf) (V : List Thing) (own : OwnOf) (id : List ℕ) (is_in : own id ≡ true) (before now : Option (List ℕ)) (t : ℤ) (asked : Option (List ℕ)) (act : Act) (unjudged : Bool) (cause : Cause) → meant asked before ≡ Some id
+    → Holds rules (cards V) before t (on_object asked act unjudged) cause → Holds rules (cards (cut own V)) now t (on_object (Some id) act unjudged) cause
+holds_part rules V own id is_in before now t asked act true cause m h = tt
+holds_part rules V own id is_in before now t asked act false NotFound m h = λ c is alive. h c (ap (card_meant (cards V)) m ∙ card_cut own id V is_in ∙ is) alive
+holds_part rules V own id is_in before now t asked act false WrongState m h = (h.0, sym (card_cut own id V is_in) ∙ sym (ap (card_meant (cards V)) m) ∙ h.1, h.2)
+holds_part rules V own id is_in before now t asked act false TakenName m h = tt
 
-founded_part : (V : List Thing) (id : List ℕ) (rules : RulesOf) (before now : Option (List ℕ)) (t : ℤ) (asked : Option (List ℕ)) (act : Act) (unjudged : Bool) (reason : Option ℕ) → meant asked before ≡ Some id
-    → FoundedOf rules (cards V) before t (on_object asked act unjudged) reason → FoundedOf rules (cards (cut id V)) now t (on_object (Some id) act unjudged) reason
-founded_part V id rules before now t asked act unjudged reason m (unsaid none) = unsaid none
-founded_part V id rules before now t asked act unjudged reason m (unlisted number is none) = unlisted number is none
-founded_part V id rules before now t asked act unjudged reason m (of_nothing h) = absurd (no_none id (sym h ∙ m))
-founded_part V id rules before now t asked act unjudged reason m (caused row has is h) = caused row has is (holds_part rules V id before now t asked act unjudged row.cause m h)
+founded_part : (V : List Thing) (own : OwnOf) (id : List ℕ) (is_in : own id ≡ true) (rules : RulesOf) (before now : Option (List ℕ)) (t : ℤ) (asked : Option (List ℕ)) (act : Act) (unjudged : Bool) (reason : Option ℕ) → meant asked before ≡ Some id
+    → FoundedOf rules (cards V) before t (on_object asked act unjudged) reason → FoundedOf rules (cards (cut own V)) now t (on_object (Some id) act unjudged) reason
+founded_part V own id is_in rules before now t asked act unjudged reason m (unsaid none) = unsaid none
+founded_part V own id is_in rules before now t asked act unjudged reason m (unlisted number is none) = unlisted number is none
+founded_part V own id is_in rules before now t asked act unjudged reason m (of_nothing h) = absurd (no_none id (sym h ∙ m))
+founded_part V own id is_in rules before now t asked act unjudged reason m (caused row has is h) = caused row has is (holds_part rules V own id is_in before now t asked act unjudged row.cause m h)
 
 -- ---- lists
 
-contains_kept : (id x : List ℕ) (xs : List (List ℕ)) → id ≡ x → Contains xs x → Contains (only_this id xs) x
-contains_kept id x xs is has = let i = at_contains xs x has in let r = kept xs i.0 i.1 in contains_at (only_this id xs) r.0 x r.1
+contains_kept : (own : OwnOf) (x : List ℕ) (xs : List (List ℕ)) → own x ≡ true → Contains xs x → Contains (only_own own xs) x
+contains_kept own x xs is has = let i = at_contains xs x has in let r = kept xs i.0 i.1 in contains_at (only_own own xs) r.0 x r.1
   where
-    kept : (ys : List (List ℕ)) (k : ℕ) → slice_get ys k ≡ Some x → (j : ℕ) × (slice_get (only_this id ys) j ≡ Some x)
+    kept : (ys : List (List ℕ)) (k : ℕ) → slice_get ys k ≡ Some x → (j : ℕ) × (slice_get (only_own own ys) j ≡ Some x)
     kept [] k at = let bad : ⊥ = cc in absurd bad
     kept (y ∷ ys) zero at =
         let same : y ≡ x = cc in
-        let tests : bytes_eq id y ≡ true = id_tests id y (is ∙ sym same) in
-        (0, ap (λ b. slice_get (cond b (y ∷ only_this id ys) (only_this id ys)) 0) tests ∙ at)
+        let tests : own y ≡ true = ap own same ∙ is in
+        (0, ap (λ b. slice_get (cond b (y ∷ only_own own ys) (only_own own ys)) 0) tests ∙ at)
     kept (y ∷ ys) (suc k) at =
         let r = kept ys k at in
-        (elim (bytes_eq id y) as (λ b. (j : ℕ) × (slice_get (cond b (y ∷ only_this id ys) (only_this id ys)) j ≡ Some x)) [
+        (elim (own y) as (λ b. (j : ℕ) × (slice_get (cond b (y ∷ only_own own ys) (only_own own ys)) j ≡ Some x)) [
           | true ↦ (suc r.0, r.1)
           | false ↦ (r.0, r.1)
         ])
 
-pub contains_only : (id x : List ℕ) (xs : List (List ℕ)) → Contains (only_this id xs) x → (id ≡ x) × Contains xs x
-contains_only id x xs has = let i = at_contains (only_this id xs) x has in let r = from xs i.0 i.1 in (r.1, contains_at xs r.0.0 x r.0.1)
+pub contains_only : (own : OwnOf) (x : List ℕ) (xs : List (List ℕ)) → Contains (only_own own xs) x → (own x ≡ true) × Contains xs x
+contains_only own x xs has = let i = at_contains (only_own own xs) x has in let r = from xs i.0 i.1 in (r.1, contains_at xs r.0.0 x r.0.1)
   where
-    from : (ys : List (List ℕ)) (k : ℕ) → slice_get (only_this id ys) k ≡ Some x → ((j : ℕ) × (slice_get ys j ≡ Some x)) × (id ≡ x)
+    from : (ys : List (List ℕ)) (k : ℕ) → slice_get (only_own own ys) k ≡ Some x → ((j : ℕ) × (slice_get ys j ≡ Some x)) × (own x ≡ true)
     from [] k at = let bad : ⊥ = cc in absurd bad
     from (y ∷ ys) k at =
-        (elim (bytes_eq id y) as (λ b. bytes_eq id y ≡ b → slice_get (cond b (y ∷ only_this id ys) (only_this id ys)) k ≡ Some x → ((j : ℕ) × (slice_get (y ∷ ys) j ≡ Some x)) × (id ≡ x)) [
+        (elim (own y) as (λ b. own y ≡ b → slice_get (cond b (y ∷ only_own own ys) (only_own own ys)) k ≡ Some x → ((j : ℕ) × (slice_get (y ∷ ys) j ≡ Some x)) × (own x ≡ true)) [
           | true ↦ λ e s. first y ys k e s (λ n q. from ys n q)
           | false ↦ λ e s. let r = from ys k s in ((suc r.0.0, r.0.1), r.1)
         ]) refl at
       where
-        first : (y : List ℕ) (ys : List (List ℕ)) (n : ℕ) → bytes_eq id y ≡ true → slice_get (y ∷ only_this id ys) n ≡ Some x
-            → ((m : ℕ) → slice_get (only_this id ys) m ≡ Some x → ((j : ℕ) × (slice_get ys j ≡ Some x)) × (id ≡ x)) → ((j : ℕ) × (slice_get (y ∷ ys) j ≡ Some x)) × (id ≡ x)
-        first y ys zero e s rest = let same : y ≡ x = cc in ((0, s), (bytes_eq-Decides id y).0 e ∙ same)
+        first : (y : List ℕ) (ys : List (List ℕ)) (n : ℕ) → own y ≡ true → slice_get (y ∷ only_own own ys) n ≡ Some x
+            → ((m : ℕ) → slice_get (only_own own ys) m ≡ Some x → ((j : ℕ) × (slice_get ys j ≡ Some x)) × (own x ≡ true)) → ((j : ℕ) × (slice_get (y ∷ ys) j ≡ Some x)) × (own x ≡ true)
+        first y ys zero e s rest = let same : y ≡ x = cc in ((0, s), ap own (sym same) ∙ e)
         first y ys (suc n) e s rest = let r = rest n s in ((suc r.0.0, r.0.1), r.1)
 
-fewer : (id : List ℕ) (xs : List (List ℕ)) → length (only_this id xs) ≤ length xs
-fewer id [] = omega arith
-fewer id (x ∷ xs) =
-    let r = fewer id xs in
-    (elim (bytes_eq id x) as (λ b. length (cond b (x ∷ only_this id xs) (only_this id xs)) ≤ length (x ∷ xs)) [
+fewer : (own : OwnOf) (xs : List (List ℕ)) → length (only_own own xs) ≤ length xs
+fewer own [] = omega arith
+fewer own (x ∷ xs) =
+    let r = fewer own xs in
+    (elim (own x) as (λ b. length (cond b (x ∷ only_own own xs) (only_own own xs)) ≤ length (x ∷ xs)) [
       | true ↦ omega (arith, r)
       | false ↦ omega (arith, r)
     ])
@@ -218,49 +223,79 @@ over_not (Some (pos m)) n k le e = less_not m n k le e
 over_not (Some (negsuc m)) n k le e = absurd cc
 
 -- nothing stands twice
-once_kept : (id : List ℕ) (xs : List (List ℕ)) → ((i j : ℕ) (x : List ℕ) → slice_get xs i ≡ Some x → slice_get xs j ≡ Some x → i ≡ j)
-    → (i j : ℕ) (x : List ℕ) → slice_get (only_this id xs) i ≡ Some x → slice_get (only_this id xs) j ≡ Some x → i ≡ j
-once_kept id [] once = λ i j x a b. let bad : ⊥ = cc in absurd bad
-once_kept id (y ∷ ys) once = by (once_kept id ys (λ i j x a b. let e : suc i ≡ suc j = once (suc i) (suc j) x a b in omega (arith, e)))
+once_kept : (own : OwnOf) (xs : List (List ℕ)) → ((i j : ℕ) (x : List ℕ) → slice_get xs i ≡ Some x → slice_get xs j ≡ Some x → i ≡ j)
+    → (i j : ℕ) (x : List ℕ) → slice_get (only_own own xs) i ≡ Some x → slice_get (only_own own xs) j ≡ Some x → i ≡ j
+once_kept own [] once = λ i j x a b. let bad : ⊥ = cc in absurd bad
+once_kept own (y ∷ ys) once = by (once_kept own ys (λ i j x a b. let e : suc i ≡ suc j = once (suc i) (suc j) x a b in omega (arith, e)))
   where
-    by : ((i j : ℕ) (x : List ℕ) → slice_get (only_this id ys) i ≡ Some x → slice_get (only_this id ys) j ≡ Some x → i ≡ j)
-        → (i j : ℕ) (x : List ℕ) → slice_get (only_this id (y ∷ ys)) i ≡ Some x → slice_get (only_this id (y ∷ ys)) j ≡ Some x → i ≡ j
+    by : ((i j : ℕ) (x : List ℕ) → slice_get (only_own own ys) i ≡ Some x → slice_get (only_own own ys) j ≡ Some x → i ≡ j)
+        → (i j : ℕ) (x : List ℕ) → slice_get (only_own own (y ∷ ys)) i ≡ Some x → slice_get (only_own own (y ∷ ys)) j ≡ Some x → i ≡ j
     by rest i j x =
-        (elim (bytes_eq id y) as (λ b. slice_get (cond b (y ∷ only_this id ys) (only_this id ys)) i ≡ Some x → slice_get (cond b (y ∷ only_this id ys) (only_this id ys)) j ≡ Some x → i ≡ j) [
+        (elim (own y) as (λ b. slice_get (cond b (y ∷ only_own own ys) (only_own own ys)) i ≡ Some x → slice_get (cond b (y ∷ only_own own ys) (only_own own ys)) j ≡ Some x → i ≡ j) [
           | true ↦ λ a b. first i j a b
           | false ↦ λ a b. rest i j x a b
         ])
       where
-        never : (n : ℕ) → y ≡ x → slice_get (only_this id ys) n ≡ Some x → ⊥
+        never : (n : ℕ) → y ≡ x → slice_get (only_own own ys) n ≡ Some x → ⊥
         never n same s =
-            let has = contains_only id x ys (contains_at (only_this id ys) n x s) in
+            let has = contains_only own x ys (contains_at (only_own own ys) n x s) in
             let k = at_contains ys x has.1 in
             let e : 0 ≡ suc k.0 = once 0 (suc k.0) x (ap Some same) k.1 in
             omega (arith, e)
 
-        first : (n m : ℕ) → slice_get (y ∷ only_this id ys) n ≡ Some x → slice_get (y ∷ only_this id ys) m ≡ Some x → n ≡ m
+        first : (n m : ℕ) → slice_get (y ∷ only_own own ys) n ≡ Some x → slice_get (y ∷ only_own own ys) m ≡ Some x → n ≡ m
         first zero zero a b = refl
         first zero (suc m) a b = let same : y ≡ x = cc in absurd (never m same b)
         first (suc n) zero a b = let same : y ≡ x = cc in absurd (never n same a)
         first (suc n) (suc m) a b = ap suc (rest n m x a b)
 
-lists_part : (id : List ℕ) (V : List Thing) (t : ℤ) (q : FilterOf) (listed : List (List ℕ)) → TellsOf id q listed → Lists (cards V) t q listed → Lists (cards (cut id V)) t q (only_this id listed)
-lists_part id V t q listed tells l = record {
+-- the maximum of a part
+pos_not_less : (n : ℕ) → int_lt (pos n) (pos n) ≡ false
+pos_not_less n = by (less_or_not n n)
+  where
+    by : ((n < n) × (nat_lt n n ≡ true)) ⊎ ((n ≤ n) × (nat_lt n n ≡ false)) → int_lt (pos n) (pos n) ≡ false
+    by (inl a) = absurd (omega (arith, a.0))
+    by (inr a) = a.1
+
+most_part : (most : Option ℤ) (full : Bool) (n k : ℕ) → k ≤ n → is_over most n ≡ false → is_over (cond full (Some (pos k)) most) k ≡ false
+most_part most true n k le e = pos_not_less k
+most_part most false n k le e = over_not most n k le e
+
+-- where its list is not full, neither was that of the item
+not_full_part : (most : Option ℤ) (full : Bool) (k : ℕ) → is_full (cond full (Some (pos k)) most) k ≡ false → full ≡ false
+not_full_part most false k e = refl
+not_full_part most true k e = let bad : not false ≡ false = ap not (sym (pos_not_less k)) ∙ e in absurd cc
+
+lists_part : (own : OwnOf) (V : List Thing) (t : ℤ) (q : FilterOf) (listed : List (List ℕ)) → Lists (cards V) t q listed
+    → Lists (cards (cut own V)) t (filter_own q (length listed) (length (only_own own listed))) (only_own own listed)
+lists_part own V t q listed l = record {
   right = record {
-    once = once_kept id listed l.right.once;
+    once = once_kept own listed l.right.once;
     fits = λ x has.
-        let c = contains_only id x listed has in
-        let P : List ℕ → Type 0 = λ i. card_meant (cards V) (Some i) ≡ card_meant (cards (cut id V)) (Some i) in
+        let c = contains_only own x listed has in
         let f = l.right.fits x c.1 in
-        (f.0, sym (subst P c.0 (card_cut id V)) ∙ f.1, f.2);
-    most = over_not q.maximum (length listed) (length (only_this id listed)) (fewer id listed) l.right.most;
+        (f.0, sym (card_cut own x V c.0) ∙ f.1, may_own f.0 f.2);
+    most = most_part q.maximum (is_full q.maximum (length listed)) (length listed) (length (only_own own listed)) (fewer own listed) l.right.most;
   };
-  all = λ full c has must. let r = card_in id V c has in contains_kept id c.id listed r.1 (stands tells c r.0 r.1 must);
+  all = λ full c has must.
+      let r = card_in own V c has in
+      contains_kept own c.id listed r.1 (l.all (not_full_part q.maximum (is_full q.maximum (length listed)) (length (only_own own listed)) full) c r.0 (must_own c must));
 }
   where
-    stands : TellsOf id q listed → (c : Card) → Contains (cards V) c → id ≡ c.id → Must q (state c.dates t) c → Contains listed c.id
-    stands (inl has) c there is must = subst (Contains listed) is has
-    stands (inr few) c there is must = l.all few c there must
+    part : FilterOf
+    part = filter_own q (length listed) (length (only_own own listed))
+
+    may_own : (c : Card) → May q (state c.dates t) c → May part (state c.dates t) c
+    may_own c m = record { names = m.names; object_type = m.object_type; state = m.state; algorithm = m.algorithm; length = m.length }
+
+    must_own : (c : Card) → Must part (state c.dates t) c → Must q (state c.dates t) c
+    must_own c m = record {
+      may = record { names = m.may.names; object_type = m.may.object_type; state = m.may.state; algorithm = m.may.algorithm; length = m.may.length };
+      alive = m.alive;
+      strict = m.strict;
+      algorithm = m.algorithm;
+      length = m.length;
+    }
 
 -- ---- an item
 
@@ -274,60 +309,58 @@ shown_leaves : {X : Type 0} (o : Option X) (P : X → Type 0) (R : Type 0) → (
 shown_leaves None P R f h = absurd h
 shown_leaves (Some x) P R f h = f x refl h
 
-module _ (rules : RulesOf) (t : ℤ) (V : List Thing) (before : Option (List ℕ)) (V' : List Thing) (after : Option (List ℕ)) (id : List ℕ) where
-  -- what is done about the object
-  change_part : (now : Option (List ℕ)) (asked : Option (List ℕ)) (change : Change) (payload : Option PayloadOf) → meant asked before ≡ Some id
+module _ (rules : RulesOf) (t : ℤ) (V : List Thing) (before : Option (List ℕ)) (V' : List Thing) (after : Option (List ℕ)) (own : OwnOf) where
+  -- what is done about one of the objects
+  change_part : (id : List ℕ) (is : own id ≡ true) (now : Option (List ℕ)) (asked : Option (List ℕ)) (change : Change) (payload : Option PayloadOf) → meant asked before ≡ Some id
       → MatchOption (seen_in (change_deed asked change) payload) ⊥ (λ (shown : Option (List ℕ)). ChangesObject rules V before t asked change shown V' after)
-      → (then : Option (List ℕ)) × MatchOption (seen_in (change_deed (Some id) change) payload) ⊥ (λ (shown : Option (List ℕ)). ChangesObject rules (cut id V) now t (Some id) change shown (cut id V') then)
-  change_part now asked change payload m h =
+      → (then : Option (List ℕ)) × MatchOption (seen_in (change_deed (Some id) change) payload) ⊥ (λ (shown : Option (List ℕ)). ChangesObject rules (cut own V) now t (Some id) change shown (cut own V') then)
+  change_part id is now asked change payload m h =
       shown_part (seen_in (change_deed asked change) payload) (λ (shown : Option (List ℕ)). ChangesObject rules V before t asked change shown V' after)
-      (λ (shown : Option (List ℕ)) (then : Option (List ℕ)). ChangesObject rules (cut id V) now t (Some id) change shown (cut id V') then)
-      (λ shown e x. (now, changes_part rules t V V' after before id now asked change shown m x)) h
+      (λ (shown : Option (List ℕ)) (then : Option (List ℕ)). ChangesObject rules (cut own V) now t (Some id) change shown (cut own V') then)
+      (λ shown e x. (now, changes_part rules t V V' after before own id is now asked change shown m x)) h
 
-  succeeds_part : (now : Option (List ℕ)) (asked : AskedOf) (payload : Option PayloadOf) → about before asked Success payload ≡ Some id → Succeeds rules V before t asked payload V' after
-      → (then : Option (List ℕ)) × Succeeds rules (cut id V) now t (written id asked) payload (cut id V') then
-  succeeds_part now (creates a) payload m h =
-      shown_part (seen_in (create_deed a) payload) (λ (x : RegisteredOf). Creates rules V t a x V' after) (λ (x : RegisteredOf) (then : Option (List ℕ)). Creates rules (cut id V) t a x (cut id V') then)
+  succeeds_part : (id : List ℕ) (is : own id ≡ true) (now : Option (List ℕ)) (asked : AskedOf) (payload : Option PayloadOf) → about before asked Success payload ≡ Some id → Succeeds rules V before t asked payload V' after
+      → (then : Option (List ℕ)) × Succeeds rules (cut own V) now t (written id asked) payload (cut own V') then
+  succeeds_part id is now (creates a) payload m h =
+      shown_part (seen_in (create_deed a) payload) (λ (x : RegisteredOf). Creates rules V t a x V' after) (λ (x : RegisteredOf) (then : Option (List ℕ)). Creates rules (cut own V) t a x (cut own V') then)
       (λ x e c.
-      let is : x.id ≡ id = same_some x.id id (sym (ap (option_map (λ (y : RegisteredOf). y.id)) e) ∙ m) in
-      let P : List ℕ → Type 0 = λ i. AddsObject rules (cut i V) t SymmetricKey a c.0 x (cut i V') (Some x.id) in
-      (Some x.id, (c.0, subst P is (adds_part rules t V V' after SymmetricKey a c.0 x c.1)))) h
-  succeeds_part now (registers r) payload m h =
-      shown_part (seen_in (register_deed r) payload) (λ (x : RegisteredOf). Registers rules V t r x V' after) (λ (x : RegisteredOf) (then : Option (List ℕ)). Registers rules (cut id V) t r x (cut id V') then)
+      let same : x.id ≡ id = same_some x.id id (sym (ap (option_map (λ (y : RegisteredOf). y.id)) e) ∙ m) in
+      (Some x.id, (c.0, adds_part rules t V V' after own SymmetricKey a c.0 x (ap own same ∙ is) c.1))) h
+  succeeds_part id is now (registers r) payload m h =
+      shown_part (seen_in (register_deed r) payload) (λ (x : RegisteredOf). Registers rules V t r x V' after) (λ (x : RegisteredOf) (then : Option (List ℕ)). Registers rules (cut own V) t r x (cut own V') then)
       (λ x e c.
-      let is : x.id ≡ id = same_some x.id id (sym (ap (option_map (λ (y : RegisteredOf). y.id)) e) ∙ m) in
-      let P : List ℕ → Type 0 = λ i. AddsObject rules (cut i V) t r.object_type (brought r) r.block.material x (cut i V') (Some x.id) in
-      (Some x.id, subst P is (adds_part rules t V V' after r.object_type (brought r) r.block.material x c))) h
-  succeeds_part now (locates q) payload m h = absurd (no_none id m)
-  succeeds_part now (gets asked) payload m h =
-      shown_part (seen_in (get_deed asked) payload) (λ (a : GotOf). Gets rules V before t asked a V' after) (λ (a : GotOf) (then : Option (List ℕ)). Gets rules (cut id V) now t (Some id) a (cut id V') then)
-      (λ a e x. (now, gets_part rules t V V' after before id now asked a m x)) h
-  succeeds_part now (gets_attributes g) payload m h =
+      let same : x.id ≡ id = same_some x.id id (sym (ap (option_map (λ (y : RegisteredOf). y.id)) e) ∙ m) in
+      (Some x.id, adds_part rules t V V' after own r.object_type (brought r) r.block.material x (ap own same ∙ is) c)) h
+  succeeds_part id is now (locates q) payload m h = absurd (no_none id m)
+  succeeds_part id is now (gets asked) payload m h =
+      shown_part (seen_in (get_deed asked) payload) (λ (a : GotOf). Gets rules V before t asked a V' after) (λ (a : GotOf) (then : Option (List ℕ)). Gets rules (cut own V) now t (Some id) a (cut own V') then)
+      (λ a e x. (now, gets_part rules t V V' after before own id is now asked a m x)) h
+  succeeds_part id is now (gets_attributes g) payload m h =
       shown_part (seen_in (get_attributes_deed g) payload) (λ (a : GotAttributesOf). GetsAttributes rules V before t g a V' after)
-      (λ (a : GotAttributesOf) (then : Option (List ℕ)). GetsAttributes rules (cut id V) now t (record g { id = Some id }) a (cut id V') then)
-      (λ a e x. (now, attributes_part rules t V V' after before id now g a m x)) h
-  succeeds_part now (activates asked) payload m h = change_part now asked Activate payload m h
-  succeeds_part now (revokes r) payload m h = change_part now r.id (Revoke r.code) payload m h
-  succeeds_part now (destroys asked) payload m h = change_part now asked Destroy payload m h
-  succeeds_part now (idles number) payload m h = absurd (no_none id m)
-  succeeds_part now (does_other number) payload m h = absurd (no_none id m)
+      (λ (a : GotAttributesOf) (then : Option (List ℕ)). GetsAttributes rules (cut own V) now t (record g { id = Some id }) a (cut own V') then)
+      (λ a e x. (now, attributes_part rules t V V' after before own id is now g a m x)) h
+  succeeds_part id is now (activates asked) payload m h = change_part id is now asked Activate payload m h
+  succeeds_part id is now (revokes r) payload m h = change_part id is now r.id (Revoke r.code) payload m h
+  succeeds_part id is now (destroys asked) payload m h = change_part id is now asked Destroy payload m h
+  succeeds_part id is now (idles number) payload m h = absurd (no_none id m)
+  succeeds_part id is now (does_other number) payload m h = absurd (no_none id m)
 
-  fails_as : (now : Option (List ℕ)) (asked : Option (List ℕ)) (act : Act) (unjudged : Bool) (reason : Option ℕ) → meant asked before ≡ Some id
-      → FoundedOf rules (cards V) before t (on_object asked act unjudged) reason → FoundedOf rules (cards (cut id V)) now t (on_object (Some id) act unjudged) reason
-  fails_as now asked act unjudged reason m f = founded_part V id rules before now t asked act unjudged reason m f
+  fails_as : (id : List ℕ) (is : own id ≡ true) (now : Option (List ℕ)) (asked : Option (List ℕ)) (act : Act) (unjudged : Bool) (reason : Option ℕ) → meant asked before ≡ Some id
+      → FoundedOf rules (cards V) before t (on_object asked act unjudged) reason → FoundedOf rules (cards (cut own V)) now t (on_object (Some id) act unjudged) reason
+  fails_as id is now asked act unjudged reason m f = founded_part V own id is rules before now t asked act unjudged reason m f
 
-  founded_written : (now : Option (List ℕ)) (asked : AskedOf) (payload : Option PayloadOf) (reason : Option ℕ) → about before asked Failed payload ≡ Some id
-      → FoundedOf rules (cards V) before t (row_subject (asked_row asked)) reason → FoundedOf rules (cards (cut id V)) now t (row_subject (asked_row (written id asked))) reason
-  founded_written now (creates a) payload reason m f = absurd (no_none id m)
-  founded_written now (registers r) payload reason m f = absurd (no_none id m)
-  founded_written now (locates q) payload reason m f = absurd (no_none id m)
-  founded_written now (gets asked) payload reason m f = founded_part V id rules before now t asked _ false reason m f
-  founded_written now (gets_attributes g) payload reason m f = founded_part V id rules before now t g.id _ g.is_selective reason m f
-  founded_written now (activates asked) payload reason m f = founded_part V id rules before now t asked _ false reason m f
-  founded_written now (revokes r) payload reason m f = founded_part V id rules before now t r.id _ false reason m f
-  founded_written now (destroys asked) payload reason m f = founded_part V id rules before now t asked _ false reason m f
-  founded_written now (idles number) payload reason m f = absurd (no_none id m)
-  founded_written now (does_other number) payload reason m f = absurd (no_none id m)
+  founded_written : (id : List ℕ) (is : own id ≡ true) (now : Option (List ℕ)) (asked : AskedOf) (payload : Option PayloadOf) (reason : Option ℕ) → about before asked Failed payload ≡ Some id
+      → FoundedOf rules (cards V) before t (row_subject (asked_row asked)) reason → FoundedOf rules (cards (cut own V)) now t (row_subject (asked_row (written id asked))) reason
+  founded_written id is now (creates a) payload reason m f = absurd (no_none id m)
+  founded_written id is now (registers r) payload reason m f = absurd (no_none id m)
+  founded_written id is now (locates q) payload reason m f = absurd (no_none id m)
+  founded_written id is now (gets asked) payload reason m f = founded_part V own id is rules before now t asked _ false reason m f
+  founded_written id is now (gets_attributes g) payload reason m f = founded_part V own id is rules before now t g.id _ g.is_selective reason m f
+  founded_written id is now (activates asked) payload reason m f = founded_part V own id is rules before now t asked _ false reason m f
+  founded_written id is now (revokes r) payload reason m f = founded_part V own id is rules before now t r.id _ false reason m f
+  founded_written id is now (destroys asked) payload reason m f = founded_part V own id is rules before now t asked _ false reason m f
+  founded_written id is now (idles number) payload reason m f = absurd (no_none id m)
+  founded_written id is now (does_other number) payload reason m f = absurd (no_none id m)
 
   undone_about : (asked : AskedOf) (payload : Option PayloadOf) → about before asked Undone payload ≡ about before asked Success payload
   undone_about (creates a) payload = refl
@@ -341,13 +374,13 @@ module _ (rules : RulesOf) (t : ℤ) (V : List Thing) (before : Option (List ℕ
   undone_about (idles number) payload = refl
   undone_about (does_other number) payload = refl
 
-  outcome_part : (now : Option (List ℕ)) (status : Status) (asked : AskedOf) (reason : Option ℕ) (payload : Option PayloadOf) → about before asked status payload ≡ Some id
-      → Outcome status rules V before t asked reason payload V' after → (then : Option (List ℕ)) × Outcome status rules (cut id V) now t (written id asked) reason payload (cut id V') then
-  outcome_part now Success asked reason payload m o = succeeds_part now asked payload m o
-  outcome_part now Undone asked reason payload m o = succeeds_part now asked payload (sym (undone_about asked payload) ∙ m) o
-  outcome_part now Failed asked reason payload m o = (now, record { founded = founded_written now asked payload reason m o.founded; leaves = ap (cut id) o.leaves; placeholder = refl })
+  outcome_part : (id : List ℕ) (is : own id ≡ true) (now : Option (List ℕ)) (status : Status) (asked : AskedOf) (reason : Option ℕ) (payload : Option PayloadOf) → about before asked status payload ≡ Some id
+      → Outcome status rules V before t asked reason payload V' after → (then : Option (List ℕ)) × Outcome status rules (cut own V) now t (written id asked) reason payload (cut own V') then
+  outcome_part id is now Success asked reason payload m o = succeeds_part id is now asked payload m o
+  outcome_part id is now Undone asked reason payload m o = succeeds_part id is now asked payload (sym (undone_about asked payload) ∙ m) o
+  outcome_part id is now Failed asked reason payload m o = (now, record { founded = founded_written id is now asked payload reason m o.founded; leaves = ap (cut own) o.leaves; placeholder = refl })
 
-  -- what leaves the object as it is
+  -- what leaves these objects as they are
   looked_on : (asked : AskedOf) (payload : Option PayloadOf) → is_change asked ≡ false → Succeeds rules V before t asked payload V' after → V' ≡ V
   looked_on (creates a) payload e h = let bad : ⊥ = cc in absurd bad
   looked_on (registers r) payload e h = let bad : ⊥ = cc in absurd bad
@@ -361,45 +394,45 @@ module _ (rules : RulesOf) (t : ℤ) (V : List Thing) (before : Option (List ℕ
   looked_on (idles number) (Some payload) e h = absurd h
   looked_on (does_other number) payload e h = absurd h
 
-  change_other : (asked : Option (List ℕ)) (change : Change) (payload : Option PayloadOf) → (meant asked before ≡ Some id → ⊥)
-      → MatchOption (seen_in (change_deed asked change) payload) ⊥ (λ (shown : Option (List ℕ)). ChangesObject rules V before t asked change shown V' after) → cut id V' ≡ cut id V
+  change_other : (asked : Option (List ℕ)) (change : Change) (payload : Option PayloadOf) → is_own own (meant asked before) ≡ false
+      → MatchOption (seen_in (change_deed asked change) payload) ⊥ (λ (shown : Option (List ℕ)). ChangesObject rules V before t asked change shown V' after) → cut own V' ≡ cut own V
   change_other asked change payload apart h =
-      shown_leaves (seen_in (change_deed asked change) payload) (λ (shown : Option (List ℕ)). ChangesObject rules V before t asked change shown V' after) (cut id V' ≡ cut id V)
-      (λ shown s x. changes_other rules t V V' after before id asked change shown apart x) h
+      shown_leaves (seen_in (change_deed asked change) payload) (λ (shown : Option (List ℕ)). ChangesObject rules V before t asked change shown V' after) (cut own V' ≡ cut own V)
+      (λ shown s x. changes_other rules t V V' after before own asked change shown apart x) h
 
-  done_elsewhere : (asked : AskedOf) (payload : Option PayloadOf) → (about before asked Success payload ≡ Some id → ⊥) → Succeeds rules V before t asked payload V' after → cut id V' ≡ cut id V
+  done_elsewhere : (asked : AskedOf) (payload : Option PayloadOf) → is_own own (about before asked Success payload) ≡ false → Succeeds rules V before t asked payload V' after → cut own V' ≡ cut own V
   done_elsewhere (creates a) payload apart h =
-      shown_leaves (seen_in (create_deed a) payload) (λ (x : RegisteredOf). Creates rules V t a x V' after) (cut id V' ≡ cut id V)
-      (λ x s c. adds_other rules t V V' after id SymmetricKey a c.0 x c.1 (λ e. apart (ap (option_map (λ (y : RegisteredOf). y.id)) s ∙ ap Some (sym e)))) h
+      shown_leaves (seen_in (create_deed a) payload) (λ (x : RegisteredOf). Creates rules V t a x V' after) (cut own V' ≡ cut own V)
+      (λ x s c. adds_other rules t V V' after own SymmetricKey a c.0 x c.1 (sym (ap (λ (o : Option RegisteredOf). is_own own (option_map (λ (y : RegisteredOf). y.id) o)) s) ∙ apart)) h
   done_elsewhere (registers r) payload apart h =
-      shown_leaves (seen_in (register_deed r) payload) (λ (x : RegisteredOf). Registers rules V t r x V' after) (cut id V' ≡ cut id V)
-      (λ x s c. adds_other rules t V V' after id r.object_type (brought r) r.block.material x c (λ e. apart (ap (option_map (λ (y : RegisteredOf). y.id)) s ∙ ap Some (sym e)))) h
-  done_elsewhere (locates q) payload apart h = ap (cut id) (looked_on (locates q) payload refl h)
-  done_elsewhere (gets asked) payload apart h = ap (cut id) (looked_on (gets asked) payload refl h)
-  done_elsewhere (gets_attributes g) payload apart h = ap (cut id) (looked_on (gets_attributes g) payload refl h)
+      shown_leaves (seen_in (register_deed r) payload) (λ (x : RegisteredOf). Registers rules V t r x V' after) (cut own V' ≡ cut own V)
+      (λ x s c. adds_other rules t V V' after own r.object_type (brought r) r.block.material x c (sym (ap (λ (o : Option RegisteredOf). is_own own (option_map (λ (y : RegisteredOf). y.id) o)) s) ∙ apart)) h
+  done_elsewhere (locates q) payload apart h = ap (cut own) (looked_on (locates q) payload refl h)
+  done_elsewhere (gets asked) payload apart h = ap (cut own) (looked_on (gets asked) payload refl h)
+  done_elsewhere (gets_attributes g) payload apart h = ap (cut own) (looked_on (gets_attributes g) payload refl h)
   done_elsewhere (activates asked) payload apart h = change_other asked Activate payload apart h
   done_elsewhere (revokes r) payload apart h = change_other r.id (Revoke r.code) payload apart h
   done_elsewhere (destroys asked) payload apart h = change_other asked Destroy payload apart h
-  done_elsewhere (idles number) payload apart h = ap (cut id) (looked_on (idles number) payload refl h)
-  done_elsewhere (does_other number) payload apart h = ap (cut id) (looked_on (does_other number) payload refl h)
+  done_elsewhere (idles number) payload apart h = ap (cut own) (looked_on (idles number) payload refl h)
+  done_elsewhere (does_other number) payload apart h = ap (cut own) (looked_on (does_other number) payload refl h)
 
-  outcome_elsewhere : (status : Status) (asked : AskedOf) (reason : Option ℕ) (payload : Option PayloadOf) → (about before asked status payload ≡ Some id → ⊥)
-      → Outcome status rules V before t asked reason payload V' after → cut id V' ≡ cut id V
+  outcome_elsewhere : (status : Status) (asked : AskedOf) (reason : Option ℕ) (payload : Option PayloadOf) → is_own own (about before asked status payload) ≡ false
+      → Outcome status rules V before t asked reason payload V' after → cut own V' ≡ cut own V
   outcome_elsewhere Success asked reason payload apart o = done_elsewhere asked payload apart o
-  outcome_elsewhere Undone asked reason payload apart o = done_elsewhere asked payload (λ e. apart (undone_about asked payload ∙ e)) o
-  outcome_elsewhere Failed asked reason payload apart o = ap (cut id) o.leaves
+  outcome_elsewhere Undone asked reason payload apart o = done_elsewhere asked payload (sym (ap (is_own own) (undone_about asked payload)) ∙ apart) o
+  outcome_elsewhere Failed asked reason payload apart o = ap (cut own) o.leaves
 
   outcome_looks : (status : Status) (asked : AskedOf) (reason : Option ℕ) (payload : Option PayloadOf) → is_change asked ≡ false
-      → Outcome status rules V before t asked reason payload V' after → cut id V' ≡ cut id V
-  outcome_looks Success asked reason payload e o = ap (cut id) (looked_on asked payload e o)
-  outcome_looks Undone asked reason payload e o = ap (cut id) (looked_on asked payload e o)
-  outcome_looks Failed asked reason payload e o = ap (cut id) o.leaves
+      → Outcome status rules V before t asked reason payload V' after → cut own V' ≡ cut own V
+  outcome_looks Success asked reason payload e o = ap (cut own) (looked_on asked payload e o)
+  outcome_looks Undone asked reason payload e o = ap (cut own) (looked_on asked payload e o)
+  outcome_looks Failed asked reason payload e o = ap (cut own) o.leaves
 
   outcome_failed : (status : Status) (asked : AskedOf) (reason : Option ℕ) (payload : Option PayloadOf) → status ≡ Failed
-      → Outcome status rules V before t asked reason payload V' after → cut id V' ≡ cut id V
+      → Outcome status rules V before t asked reason payload V' after → cut own V' ≡ cut own V
   outcome_failed Success asked reason payload e o = let bad : ⊥ = cc in absurd bad
   outcome_failed Undone asked reason payload e o = let bad : ⊥ = cc in absurd bad
-  outcome_failed Failed asked reason payload e o = ap (cut id) o.leaves
+  outcome_failed Failed asked reason payload e o = ap (cut own) o.leaves
 
 -- ---- answers that may be completed
 
@@ -529,14 +562,14 @@ outcome_idle rules t V W now Success number e = (e, refl)
 outcome_idle rules t V W now Undone number e = (e, refl)
 outcome_idle rules t V W now Failed number e = record { founded = unsaid refl; leaves = e; placeholder = refl }
 
-outcome_lists : (rules : RulesOf) (t : ℤ) (V : List Thing) (before : Option (List ℕ)) (V' : List Thing) (after : Option (List ℕ)) (id : List ℕ) (now : Option (List ℕ)) (status : Status) (q : FilterOf) (listed : List (List ℕ)) (reason : Option ℕ)
-    → status ≢ Failed → TellsOf id q listed → Outcome status rules V before t (locates q) reason (Some (located listed)) V' after
-    → (then : Option (List ℕ)) × Outcome status rules (cut id V) now t (locates q) reason (Some (located (only_this id listed))) (cut id V') then
-outcome_lists rules t V before V' after id now Success q listed reason done tells o =
-    (names_only now (Some (only_this id listed)), (lists_part id V t q listed tells o.0, ap (cut id) o.1, refl))
-outcome_lists rules t V before V' after id now Undone q listed reason done tells o =
-    (names_only now (Some (only_this id listed)), (lists_part id V t q listed tells o.0, ap (cut id) o.1, refl))
-outcome_lists rules t V before V' after id now Failed q listed reason done tells o = absurd (done refl)
+outcome_lists : (rules : RulesOf) (t : ℤ) (V : List Thing) (before : Option (List ℕ)) (V' : List Thing) (after : Option (List ℕ)) (own : OwnOf) (now : Option (List ℕ)) (status : Status) (q : FilterOf) (listed : List (List ℕ)) (reason : Option ℕ)
+    → status ≢ Failed → Outcome status rules V before t (locates q) reason (Some (located listed)) V' after
+    → (then : Option (List ℕ)) × Outcome status rules (cut own V) now t (locates (filter_own q (length listed) (length (only_own own listed)))) reason (Some (located (only_own own listed))) (cut own V') then
+outcome_lists rules t V before V' after own now Success q listed reason done o =
+    (names_only now (Some (only_own own listed)), (lists_part own V t q listed o.0, ap (cut own) o.1, refl))
+outcome_lists rules t V before V' after own now Undone q listed reason done o =
+    (names_only now (Some (only_own own listed)), (lists_part own V t q listed o.0, ap (cut own) o.1, refl))
+outcome_lists rules t V before V' after own now Failed q listed reason done o = absurd (done refl)
 
 module _ (rules : RulesOf) (t : ℤ) (V : List Thing) (before : Option (List ℕ)) (ask : AskOf) (answer : AnswerOf) (V' : List Thing) (after : Option (List ℕ)) (readable : is_readable ask answer ≡ true) (d : DoesSome rules V before t ask answer V' after) where
   judged : can_judge answer.status ask.asked answer.payload ≡ true
@@ -556,17 +589,17 @@ module _ (rules : RulesOf) (t : ℤ) (V : List Thing) (before : Option (List ℕ
       held_outcome rules t V before V' after answer.status ask.asked d.full.reason d.full.payload outcome
       ∙ held_full before ask.asked answer.status answer.payload d.full.payload judged d.completes.payload
 
-  pub leaves_be : (id : List ℕ) → LeavesBe id before ask answer → cut id V' ≡ cut id V
-  leaves_be id (failed e) = outcome_failed rules t V before V' after id answer.status ask.asked d.full.reason d.full.payload e outcome
-  leaves_be id (looks e) = outcome_looks rules t V before V' after id answer.status ask.asked d.full.reason d.full.payload e outcome
-  leaves_be id (elsewhere apart) =
-      outcome_elsewhere rules t V before V' after id answer.status ask.asked d.full.reason d.full.payload (λ e. apart (sym about_same ∙ e)) outcome
+  pub leaves_be : (own : OwnOf) → LeavesBe own before ask answer → cut own V' ≡ cut own V
+  leaves_be own (failed e) = outcome_failed rules t V before V' after own answer.status ask.asked d.full.reason d.full.payload e outcome
+  leaves_be own (looks e) = outcome_looks rules t V before V' after own answer.status ask.asked d.full.reason d.full.payload e outcome
+  leaves_be own (elsewhere apart) =
+      outcome_elsewhere rules t V before V' after own answer.status ask.asked d.full.reason d.full.payload (ap (is_own own) about_same ∙ apart) outcome
 
-  stays_some : (id : List ℕ) (now : Option (List ℕ)) → about before ask.asked answer.status answer.payload ≡ Some id
-      → (then : Option (List ℕ)) × DoesSome rules (cut id V) now t (record ask { asked = written id ask.asked }) answer (cut id V') then
-  stays_some id now m =
-      let o = outcome_part rules t V before V' after id now answer.status ask.asked d.full.reason d.full.payload (about_same ∙ m) outcome in
-      let P : Status → Type 0 = λ s. Outcome s rules (cut id V) now t (written id ask.asked) d.full.reason d.full.payload (cut id V') o.0 in (
+  stays_some : (own : OwnOf) (id : List ℕ) (is : own id ≡ true) (now : Option (List ℕ)) → about before ask.asked answer.status answer.payload ≡ Some id
+      → (then : Option (List ℕ)) × DoesSome rules (cut own V) now t (record ask { asked = written id ask.asked }) answer (cut own V') then
+  stays_some own id is now m =
+      let o = outcome_part rules t V before V' after own id is now answer.status ask.asked d.full.reason d.full.payload (about_same ∙ m) outcome in
+      let P : Status → Type 0 = λ s. Outcome s rules (cut own V) now t (written id ask.asked) d.full.reason d.full.payload (cut own V') o.0 in (
         o.0,
         record {
           full = d.full;
@@ -585,30 +618,32 @@ module _ (rules : RulesOf) (t : ℤ) (V : List Thing) (before : Option (List ℕ
         },
       )
 
-  lists_some : (id : List ℕ) (now : Option (List ℕ)) (q : FilterOf) (listed : List (List ℕ)) → ask.asked ≡ locates q → answer.payload ≡ Some (located listed) → answer.status ≢ Failed → TellsOf id q listed
-      → (then : Option (List ℕ)) × DoesSome rules (cut id V) now t ask (record answer { payload = Some (located (only_this id listed)) }) (cut id V') then
-  lists_some id now q listed asks shows done tells =
+  lists_some : (own : OwnOf) (now : Option (List ℕ)) (q : FilterOf) (listed : List (List ℕ)) → ask.asked ≡ locates q → answer.payload ≡ Some (located listed) → answer.status ≢ Failed
+      → (then : Option (List ℕ)) × DoesSome rules (cut own V) now t (record ask { asked = locates (filter_own q (length listed) (length (only_own own listed))) })
+      (record answer { payload = Some (located (only_own own listed)) }) (cut own V') then
+  lists_some own now q listed asks shows done =
       let same : d.full.payload ≡ Some (located listed) =
       (let P : Option PayloadOf → Type 0 = λ p. Fills ask.asked answer.status p d.full.payload in filled_same ask.asked answer.status (located listed) d.full.payload (subst P shows d.completes.payload)) in
       let P : Option PayloadOf → Type 0 = λ p. Outcome answer.status rules V before t ask.asked d.full.reason p V' after in
       let Q : AskedOf → Type 0 = λ a. Outcome answer.status rules V before t a d.full.reason (Some (located listed)) V' after in
-      let o = outcome_lists rules t V before V' after id now answer.status q listed d.full.reason done tells (subst Q asks (subst P same outcome)) in
-      let R : AskedOf → Type 0 = λ a. Outcome answer.status rules (cut id V) now t a d.full.reason (Some (located (only_this id listed))) (cut id V') o.0 in
-      let S : Status → Type 0 = λ s. Outcome s rules (cut id V) now t ask.asked d.full.reason (Some (located (only_this id listed))) (cut id V') o.0 in (
+      let o = outcome_lists rules t V before V' after own now answer.status q listed d.full.reason done (subst Q asks (subst P same outcome)) in
+      let part : FilterOf = filter_own q (length listed) (length (only_own own listed)) in
+      let S : Status → Type 0 = λ s. Outcome s rules (cut own V) now t (locates part) d.full.reason (Some (located (only_own own listed))) (cut own V') o.0 in
+      let E : AskedOf → Type 0 = λ a. Echoes d.full.operation (operation_number (operation_asked a)) in (
         o.0,
         record {
-          full = record d.full { payload = Some (located (only_this id listed)) };
+          full = record d.full { payload = Some (located (only_own own listed)) };
           completes = record {
             operation = d.completes.operation;
             batch_id = d.completes.batch_id;
             status = d.completes.status;
             reason = d.completes.reason;
-            payload = fills_itself ask.asked answer.status (located (only_this id listed));
+            payload = fills_itself (locates part) answer.status (located (only_own own listed));
           };
           does = record {
-            operation = d.does.operation;
+            operation = subst E asks d.does.operation;
             batch_id = d.does.batch_id;
-            outcome = subst S (sym d.completes.status) (subst R (sym asks) o.1);
+            outcome = subst S (sym d.completes.status) o.1;
           };
         },
       )
@@ -634,14 +669,14 @@ idle_some rules t V W now status ask answer e i =
 
 -- what an item does, its part does to the cut
 pub part_does : (rules : RulesOf) (t : ℤ) (V : List Thing) (before : Option (List ℕ)) (ask : AskOf) (answer : AnswerOf) (V' : List Thing) (after : Option (List ℕ)) → is_readable ask answer ≡ true
-    → DoesSome rules V before t ask answer V' after → (id : List ℕ) (now : Option (List ℕ)) (part : AskOf) (shown : AnswerOf) → IsPart id before ask answer part shown
-    → (then : Option (List ℕ)) × DoesSome rules (cut id V) now t part shown (cut id V') then
-part_does rules t V before ask answer V' after readable d id now part shown (stays m is same) =
-    let P : AskOf → AnswerOf → Type 0 = λ k a. (then : Option (List ℕ)) × DoesSome rules (cut id V) now t k a (cut id V') then in
-    subst (λ (a : AnswerOf). P part a) (sym same) (subst (λ (k : AskOf). P k answer) (sym is) (stays_some rules t V before ask answer V' after readable d id now m))
-part_does rules t V before ask answer V' after readable d id now part shown (lists q listed asks shows done tells is same) =
-    let P : AskOf → AnswerOf → Type 0 = λ k a. (then : Option (List ℕ)) × DoesSome rules (cut id V) now t k a (cut id V') then in
+    → DoesSome rules V before t ask answer V' after → (own : OwnOf) (now : Option (List ℕ)) (part : AskOf) (shown : AnswerOf) → IsPart own before ask answer part shown
+    → (then : Option (List ℕ)) × DoesSome rules (cut own V) now t part shown (cut own V') then
+part_does rules t V before ask answer V' after readable d own now part shown (stays id m is_in is same) =
+    let P : AskOf → AnswerOf → Type 0 = λ k a. (then : Option (List ℕ)) × DoesSome rules (cut own V) now t k a (cut own V') then in
+    subst (λ (a : AnswerOf). P part a) (sym same) (subst (λ (k : AskOf). P k answer) (sym is) (stays_some rules t V before ask answer V' after readable d own id is_in now m))
+part_does rules t V before ask answer V' after readable d own now part shown (lists q listed asks shows done is same) =
+    let P : AskOf → AnswerOf → Type 0 = λ k a. (then : Option (List ℕ)) × DoesSome rules (cut own V) now t k a (cut own V') then in
     subst (λ (a : AnswerOf). P part a) (sym same)
-    (subst (λ (k : AskOf). P k (record answer { payload = Some (located (only_this id listed)) })) (sym is) (lists_some rules t V before ask answer V' after readable d id now q listed asks shows done tells))
-part_does rules t V before ask answer V' after readable d id now part shown (idle be i) =
-    (now, idle_some rules t (cut id V) (cut id V') now answer.status part shown (leaves_be rules t V before ask answer V' after readable d id be) i)
+    (subst (λ (k : AskOf). P k (record answer { payload = Some (located (only_own own listed)) })) (sym is) (lists_some rules t V before ask answer V' after readable d own now q listed asks shows done))
+part_does rules t V before ask answer V' after readable d own now part shown (idle be i) =
+    (now, idle_some rules t (cut own V) (cut own V') now answer.status part shown (leaves_be rules t V before ask answer V' after readable d own be) i)

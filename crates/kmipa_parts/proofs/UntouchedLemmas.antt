@@ -1,5 +1,5 @@
--- Calls that may not touch an object leave it as it is, whatever they are answered, and in whatever order their items are taken.
-use Rattle.std.proofs.Common.{◌≡◌, ◌<◌, ◌+◌, ◌⊎◌, inl, inr, ℕ, zero, suc, ℤ, true, false, List, [], ◌∷◌, ◌++◌, bytes_eq, get_or, length, map, slice_get, take, Option, Some, None, Contains, refl, sym, ap, ◌∙◌, subst}
+-- Calls that may not touch some objects leave them as they are, whatever they are answered, and in whatever order their items are taken.
+use Rattle.std.proofs.Common.{◌≡◌, ◌<◌, ◌+◌, ◌⊎◌, inl, inr, ℕ, zero, suc, ℤ, true, false, List, [], ◌∷◌, ◌++◌, get_or, length, map, slice_get, take, Option, Some, None, Contains, refl, sym, ap, ◌∙◌, subst}
 use Rattle.std.specs.List.{zip}
 use Rattle.std.proofs.lemmas.List.{map-append, take_more}
 use Rattle.std.proofs.lemmas.List.Elements.{Contains-append_cases}
@@ -19,40 +19,35 @@ use Rattle.kmipa_batch.specs.Readable.{AreReadable, IsReadableCall}
 use Rattle.kmipa_batch.proofs.CompletionLemmas.{batch_of_call, refused_leaves}
 use Rattle.kmipa_check.specs.Steps.{StepOf, order_of}
 use Rattle.kmipa_check.proofs.PlaceLemmas.{contains_at, at_contains}
-use Rattle.kmipa_parts.specs.Parts.{cut, about, is_change, LeavesBe, looks, elsewhere, may_mean, may_touch, MayTouch}
-use Rattle.kmipa_parts.proofs.CutLemmas.{id_tests, true_or_not}
+use Rattle.kmipa_parts.specs.Parts.{OwnOf, cut, about, is_change, is_own, LeavesBe, looks, elsewhere, may_mean, may_touch, MayTouch}
+use Rattle.kmipa_parts.proofs.CutLemmas.{true_or_not}
 use Rattle.kmipa_parts.proofs.ItemLemmas.{leaves_be}
 
 -- ---- an item
 
-module _ (id : List ℕ) (before : Option (List ℕ)) (ask : AskOf) (answer : AnswerOf) (none : may_touch id ask.asked ≡ false) where
-  another : (named : Option (List ℕ)) → may_mean id named ≡ false → meant named before ≡ Some id → ⊥
-  another None e m = let bad : ⊥ = cc in bad
-  another (Some other) e m =
-      let same : other ≡ id = cc in
-      let test : bytes_eq id other ≡ true = id_tests id other (sym same) in
-      let both : true ≡ false = sym test ∙ e in
-      let bad : ⊥ = cc in
-      bad
+module _ (own : OwnOf) (before : Option (List ℕ)) (ask : AskOf) (answer : AnswerOf) (none : may_touch own ask.asked ≡ false) where
+  another : (named : Option (List ℕ)) → may_mean own named ≡ false → is_own own (meant named before) ≡ false
+  another None e = let bad : ⊥ = cc in absurd bad
+  another (Some other) e = e
 
-  looking : (asked : AskedOf) → ask.asked ≡ asked → is_change asked ≡ false → LeavesBe id before ask answer
+  looking : (asked : AskedOf) → ask.asked ≡ asked → is_change asked ≡ false → LeavesBe own before ask answer
   looking asked e quiet = looks (ap is_change e ∙ quiet)
 
-  away : (asked : AskedOf) (named : Option (List ℕ)) → ask.asked ≡ asked → may_touch id asked ≡ may_mean id named → about before asked answer.status answer.payload ≡ meant named before → LeavesBe id before ask answer
+  away : (asked : AskedOf) (named : Option (List ℕ)) → ask.asked ≡ asked → may_touch own asked ≡ may_mean own named → about before asked answer.status answer.payload ≡ meant named before → LeavesBe own before ask answer
   away asked named e touch is =
-      elsewhere (λ m. another named (sym touch ∙ sym (ap (may_touch id) e) ∙ none) (sym is ∙ sym (ap (λ (a : AskedOf). about before a answer.status answer.payload) e) ∙ m))
+      elsewhere (ap (is_own own) (ap (λ (a : AskedOf). about before a answer.status answer.payload) e ∙ is) ∙ another named (sym touch ∙ sym (ap (may_touch own) e) ∙ none))
 
-  never : (asked : AskedOf) → ask.asked ≡ asked → may_touch id asked ≡ true → ⊥
+  never : (asked : AskedOf) → ask.asked ≡ asked → may_touch own asked ≡ true → ⊥
   never asked e touch =
-      let both : true ≡ false = sym touch ∙ sym (ap (may_touch id) e) ∙ none in
+      let both : true ≡ false = sym touch ∙ sym (ap (may_touch own) e) ∙ none in
       let bad : ⊥ = cc in
       bad
 
-  -- one that may not touch the object leaves it as it is
-  leaves_untouched : LeavesBe id before ask answer
+  -- one that may not touch them leaves them as they are
+  leaves_untouched : LeavesBe own before ask answer
   leaves_untouched = by ask.asked refl
     where
-      by : (asked : AskedOf) → ask.asked ≡ asked → LeavesBe id before ask answer
+      by : (asked : AskedOf) → ask.asked ≡ asked → LeavesBe own before ask answer
       by (creates a) e = absurd (never (creates a) e refl)
       by (registers r) e = absurd (never (registers r) e refl)
       by (locates q) e = absurd (never (locates q) e refl)
@@ -87,8 +82,8 @@ module _ (P : AskOf × AnswerOf → Type 0) where
 abbrev CanBeJudged : AskOf × AnswerOf → Type 0
 CanBeJudged pair = is_readable pair.0 pair.1 ≡ true
 
-abbrev IsUntouched : List ℕ → AskOf × AnswerOf → Type 0
-IsUntouched id pair = may_touch id pair.0.asked ≡ false
+abbrev IsUntouched : OwnOf → AskOf × AnswerOf → Type 0
+IsUntouched own pair = may_touch own pair.0.asked ≡ false
 
 abbrev HasFailed : AskOf × AnswerOf → Type 0
 HasFailed pair = pair.1.status ≡ Failed
@@ -97,11 +92,11 @@ each_readable : (pairs : List (AskOf × AnswerOf)) → AreReadable pairs → Eac
 each_readable [] r = tt
 each_readable (pair ∷ pairs) r = (r.0, each_readable pairs r.1)
 
-each_untouched : (id : List ℕ) (asks : List AskOf) (answers : List AnswerOf) → ((ask : AskOf) → Contains asks ask → may_touch id ask.asked ≡ false) → Each (IsUntouched id) (zip asks answers)
-each_untouched id [] answers u = tt
-each_untouched id (ask ∷ asks) [] u = tt
-each_untouched id (ask ∷ asks) (answer ∷ answers) u =
-    (u ask (contains_at (ask ∷ asks) 0 ask refl), each_untouched id asks answers (λ x has. let i = at_contains asks x has in u x (contains_at (ask ∷ asks) (suc i.0) x i.1)))
+each_untouched : (own : OwnOf) (asks : List AskOf) (answers : List AnswerOf) → ((ask : AskOf) → Contains asks ask → may_touch own ask.asked ≡ false) → Each (IsUntouched own) (zip asks answers)
+each_untouched own [] answers u = tt
+each_untouched own (ask ∷ asks) [] u = tt
+each_untouched own (ask ∷ asks) (answer ∷ answers) u =
+    (u ask (contains_at (ask ∷ asks) 0 ask refl), each_untouched own asks answers (λ x has. let i = at_contains asks x has in u x (contains_at (ask ∷ asks) (suc i.0) x i.1)))
 
 abbrev AllFailed : List AnswerOf → Type 0
 AllFailed [] = Unit {0}
@@ -116,12 +111,12 @@ each_failed (ask ∷ asks) (answer ∷ answers) (full ∷ fulls) c f = (c.0.stat
 
 -- ---- chains of them
 
-chain_untouched : (rules : RulesOf) (t : ℤ) (id : List ℕ) (V : List Thing) (before : Option (List ℕ)) (pairs : List (AskOf × AnswerOf)) (W : List Thing) (after : Option (List ℕ))
-    → Each CanBeJudged pairs → Each (IsUntouched id) pairs → ChainSome rules t V before pairs W after → cut id W ≡ cut id V
-chain_untouched rules t id V before [] W after r u c = ap (cut id) c.0
-chain_untouched rules t id V before (pair ∷ pairs) W after r u c =
-    chain_untouched rules t id c.0 c.1 pairs W after r.1 u.1 c.3
-    ∙ leaves_be rules t V before pair.0 pair.1 c.0 c.1 r.0 c.2 id (leaves_untouched id before pair.0 pair.1 u.0)
+chain_untouched : (rules : RulesOf) (t : ℤ) (own : OwnOf) (V : List Thing) (before : Option (List ℕ)) (pairs : List (AskOf × AnswerOf)) (W : List Thing) (after : Option (List ℕ))
+    → Each CanBeJudged pairs → Each (IsUntouched own) pairs → ChainSome rules t V before pairs W after → cut own W ≡ cut own V
+chain_untouched rules t own V before [] W after r u c = ap (cut own) c.0
+chain_untouched rules t own V before (pair ∷ pairs) W after r u c =
+    chain_untouched rules t own c.0 c.1 pairs W after r.1 u.1 c.3
+    ∙ leaves_be rules t V before pair.0 pair.1 c.0 c.1 r.0 c.2 own (leaves_untouched own before pair.0 pair.1 u.0)
 
 leaves_failed : (status : Status) (rules : RulesOf) (V : List Thing) (p : Option (List ℕ)) (t : ℤ) (asked : AskedOf) (reason : Option ℕ) (payload : Option PayloadOf) (W : List Thing) (q : Option (List ℕ))
     → status ≡ Failed → Outcome status rules V p t asked reason payload W q → W ≡ V
@@ -155,9 +150,9 @@ refuses_or_not response = by response.items refl
         failing Success o f u = inr (λ r. let both : Success ≡ Failed = sym f ∙ ap (λ (y : AnswerOf). y.status) (mine r) ∙ r.failed in let bad : ⊥ = cc in bad)
         failing Undone o f u = inr (λ r. let both : Undone ≡ Failed = sym f ∙ ap (λ (y : AnswerOf). y.status) (mine r) ∙ r.failed in let bad : ⊥ = cc in bad)
 
-module _ (rules : RulesOf) (id : List ℕ) (V : List Thing) (c : StepOf) (W : List Thing) (readable : IsReadableCall c.request c.response) (apart : MayTouch id c.request → ⊥) where
-  untouching : Each (IsUntouched id) (pairs_of c.request c.response)
-  untouching = each_untouched id c.request.items c.response.items (λ ask has. elim (true_or_not (may_touch id ask.asked)) [ inl touch ↦ absurd (apart (ask, has, touch)) | inr none ↦ none ])
+module _ (rules : RulesOf) (own : OwnOf) (V : List Thing) (c : StepOf) (W : List Thing) (readable : IsReadableCall c.request c.response) (apart : MayTouch own c.request → ⊥) where
+  untouching : Each (IsUntouched own) (pairs_of c.request c.response)
+  untouching = each_untouched own c.request.items c.response.items (λ ask has. elim (true_or_not (may_touch own ask.asked)) [ inl touch ↦ absurd (apart (ask, has, touch)) | inr none ↦ none ])
 
   -- a message that is refused as a whole changes nothing, in whatever order it is taken
   refused_untouched : (order : Option (List ℕ)) → RefusesMessage c.response → CallSomeAlong rules V c.request c.response order W → W ≡ V
@@ -172,31 +167,31 @@ module _ (rules : RulesOf) (id : List ℕ) (V : List Thing) (c : StepOf) (W : Li
           let same = chain_failed rules s.full.stamp V None (along (pairs_of c.request s.full) order) b.last b.placeholder (each_along HasFailed (pairs_of c.request s.full) order failed) b.chain in
           (elim b.leaves [ goes_back undo f first is ↦ is | goes_on none is ↦ is ∙ same ])
 
-  batch_untouched : (order : Option (List ℕ)) → (RefusesMessage c.response → ⊥) → CallSomeAlong rules V c.request c.response order W → cut id W ≡ cut id V
+  batch_untouched : (order : Option (List ℕ)) → (RefusesMessage c.response → ⊥) → CallSomeAlong rules V c.request c.response order W → cut own W ≡ cut own V
   batch_untouched order unrefused s =
       let b = batch_of_call rules V c.request c.response order W unrefused s in
-      let same = chain_untouched rules c.response.stamp id V None (pairs_taken c.request c.response order) b.last b.placeholder (judged order) (apart_all order) b.chain in
-      (elim b.leaves [ goes_back undo f first is ↦ ap (cut id) is | goes_on none is ↦ ap (cut id) is ∙ same ])
+      let same = chain_untouched rules c.response.stamp own V None (pairs_taken c.request c.response order) b.last b.placeholder (judged order) (apart_all order) b.chain in
+      (elim b.leaves [ goes_back undo f first is ↦ ap (cut own) is | goes_on none is ↦ ap (cut own) is ∙ same ])
     where
       judged : (o : Option (List ℕ)) → Each CanBeJudged (pairs_taken c.request c.response o)
       judged None = each_readable (pairs_of c.request c.response) (readable unrefused)
       judged (Some places) = each_along CanBeJudged (pairs_of c.request c.response) places (each_readable (pairs_of c.request c.response) (readable unrefused))
 
-      apart_all : (o : Option (List ℕ)) → Each (IsUntouched id) (pairs_taken c.request c.response o)
+      apart_all : (o : Option (List ℕ)) → Each (IsUntouched own) (pairs_taken c.request c.response o)
       apart_all None = untouching
-      apart_all (Some places) = each_along (IsUntouched id) (pairs_of c.request c.response) places untouching
+      apart_all (Some places) = each_along (IsUntouched own) (pairs_of c.request c.response) places untouching
 
-  pub call_untouched : CallSomeAlong rules V c.request c.response (order_of c) W → cut id W ≡ cut id V
+  pub call_untouched : CallSomeAlong rules V c.request c.response (order_of c) W → cut own W ≡ cut own V
   call_untouched d = elim (refuses_or_not c.response) [
-    | inl r ↦ ap (cut id) (refused_untouched (order_of c) r d)
+    | inl r ↦ ap (cut own) (refused_untouched (order_of c) r d)
     | inr unrefused ↦ batch_untouched (order_of c) unrefused d
   ]
 
 -- ---- the asks that were looked at
 
-pub one_more : (id : List ℕ) (xs : List Ask) (i : ℕ) (x : Ask) → i < length xs → x ≡ get_or xs i x → ((ask : AskOf) → Contains (map ask_of (take i xs)) ask → may_touch id ask.asked ≡ false)
-    → may_touch id (ask_of x).asked ≡ false → (ask : AskOf) → Contains (map ask_of (take (i + 1) xs)) ask → may_touch id ask.asked ≡ false
-one_more id xs i x less is before here ask has =
+pub one_more : (own : OwnOf) (xs : List Ask) (i : ℕ) (x : Ask) → i < length xs → x ≡ get_or xs i x → ((ask : AskOf) → Contains (map ask_of (take i xs)) ask → may_touch own ask.asked ≡ false)
+    → may_touch own (ask_of x).asked ≡ false → (ask : AskOf) → Contains (map ask_of (take (i + 1) xs)) ask → may_touch own ask.asked ≡ false
+one_more own xs i x less is before here ask has =
     let more : map ask_of (take (i + 1) xs) ≡ map ask_of (take i xs) ++ ask_of x ∷ [] = ap (λ ys. map ask_of ys) (take_more xs i x less ∙ ap (λ y. take i xs ++ y ∷ []) (sym is)) ∙ map-append ask_of (take i xs) (x ∷ []) in
     let P : List AskOf → Type 0 = λ ks. Contains ks ask in
     (elim (Contains-append_cases (map ask_of (take i xs)) (ask_of x ∷ []) ask (subst P more has)) [
@@ -204,6 +199,6 @@ one_more id xs i x less is before here ask has =
       | inr r ↦ (let k = at_contains (ask_of x ∷ []) ask r in last k.0 k.1)
     ])
   where
-    last : (k : ℕ) → slice_get (ask_of x ∷ []) k ≡ Some ask → may_touch id ask.asked ≡ false
-    last zero at = let same : ask_of x ≡ ask = cc in let Q : AskOf → Type 0 = λ y. may_touch id y.asked ≡ false in subst Q same here
+    last : (k : ℕ) → slice_get (ask_of x ∷ []) k ≡ Some ask → may_touch own ask.asked ≡ false
+    last zero at = let same : ask_of x ≡ ask = cc in let Q : AskOf → Type 0 = λ y. may_touch own y.asked ≡ false in subst Q same here
     last (suc k) at = let bad : ⊥ = cc in absurd bad

@@ -1,15 +1,15 @@
-//! The part of a call on one object.
+//! The part of a call on some objects.
 
 ghost use Rattle.std.specs.Prelude.{◌≡◌, ◌++◌, ◌≤◌, List, None, IfOk, IfSome, length, map, take, true};
-ghost use Rattle.kmipa_msgs.specs.Messages.{AskOf, answer_of, ask_of, request_of, response_of};
-ghost use Rattle.kmipa_parts.specs.Parts.{AllLeaveBe, ArePartItems};
+ghost use Rattle.kmipa_msgs.specs.Messages.{AskOf, answer_of, ask_of, lent, request_of, response_of};
+ghost use Rattle.kmipa_parts.specs.Parts.{AllLeaveBe, ArePartItems, is_among};
 
 use crate::item::{PartItem, idle_ask, leaves_be, part_item};
 use crate::subject::held_after;
 use kmipa_msgs::{Answer, Ask, Request, Response};
 use std::alloc::{AllocError, Global};
 
-/// What a call does to one object, as a call.
+/// What a call does to some objects, as a call.
 #[derive(Drop)]
 pub struct Part<'a> {
     pub request: Request<'a>,
@@ -23,22 +23,22 @@ struct PartItems<'a> {
     answers: Vec<Answer<'a>>,
 }
 
-/// The part of a call by place on the object of an identifier; `None` where none is known: it has more answers than items, or changes
+/// The part of a call by place on the objects of these identifiers; `None` where none is known: it has more answers than items, or changes
 /// something, and it isn't known what.
 pub fn part_of<'a>(
     alloc: Global,
-    id: &'a str,
+    ids: &[&str],
     request: &Request<'a>,
     response: &Response<'a>,
 ) -> Result<Option<Part<'a>>, AllocError>
     ensures items { IfOk result
         (λ part. IfSome part
-        (λ own. ArePartItems id.now None (request_of request.now).items (response_of response.now).items
+        (λ own. ArePartItems (is_among (map lent ids.now)) None (request_of request.now).items (response_of response.now).items
         (request_of own.request).items (response_of own.response).items)) }
     ensures stamp { IfOk result (λ part. IfSome part (λ own. own.response.stamp ≡ response.now.stamp)) }
     ensures option { IfOk result (λ part. IfSome part (λ own. own.request.option ≡ request.now.option)) }
 {
-    let Some(items) = part_items(alloc, id, &request.items, &response.items)? else {
+    let Some(items) = part_items(alloc, ids, &request.items, &response.items)? else {
         return Ok(None);
     };
     let PartItems { asks, answers } = items;
@@ -55,9 +55,9 @@ pub fn part_of<'a>(
     }))
 }
 
-/// Whether a call by place leaves the object of an identifier as it is: each of its items that are answered does.
-pub fn leave_be(id: &str, request: &Request, response: &Response) -> bool
-    ensures { result ≡ true → AllLeaveBe id.now None (request_of request.now).items (response_of response.now).items }
+/// Whether a call by place leaves the objects of these identifiers as they are: each of its items that are answered does.
+pub fn leave_be(ids: &[&str], request: &Request, response: &Response) -> bool
+    ensures { result ≡ true → AllLeaveBe (is_among (map lent ids.now)) None (request_of request.now).items (response_of response.now).items }
 {
     let mut held = None;
     let mut place = 0;
@@ -67,7 +67,7 @@ pub fn leave_be(id: &str, request: &Request, response: &Response) -> bool
         }
         let ask = &request.items[place];
         let answer = &response.items[place];
-        if !leaves_be(id, held, ask, answer) {
+        if !leaves_be(ids, held, ask, answer) {
             return false;
         }
         held = held_after(held, ask, answer);
@@ -79,14 +79,14 @@ pub fn leave_be(id: &str, request: &Request, response: &Response) -> bool
 /// The parts of the items that are answered; `None` where one has none, or there are more answers.
 fn part_items<'a>(
     alloc: Global,
-    id: &'a str,
+    ids: &[&str],
     asks: &[Ask<'a>],
     answers: &[Answer<'a>],
 ) -> Result<Option<PartItems<'a>>, AllocError>
     ensures { IfOk result
         (λ part. IfSome part
         (λ own. (length answers.now ≤ length asks.now)
-        × ArePartItems id.now None (take (length answers.now) (map ask_of asks.now)) (map answer_of answers.now)
+        × ArePartItems (is_among (map lent ids.now)) None (take (length answers.now) (map ask_of asks.now)) (map answer_of answers.now)
         (map ask_of own.asks.items) (map answer_of own.answers.items))) }
 {
     let mut parts = Vec::with_capacity(alloc, asks.len())?;
@@ -99,7 +99,7 @@ fn part_items<'a>(
         }
         let ask = &asks[place];
         let answer = &answers[place];
-        let Some(item) = part_item(alloc, id, held, ask, answer)? else {
+        let Some(item) = part_item(alloc, ids, held, ask, answer)? else {
             return Ok(None);
         };
         let PartItem {

@@ -4,6 +4,7 @@ ghost use Rattle.std.specs.Prelude.{◌≡◌, Some, IfOk, map, option_map};
 ghost use Rattle.kmipa_msgs.specs.Messages.{answer_of, asked_of, lent, locate_of, payload_of};
 ghost use Rattle.kmipa_parts.specs.Parts.{written};
 
+use kmipa_attrs::Filter;
 use kmipa_msgs::{
     Activate, Answer, Asked, Create, Destroy, Get, GetAttributes, GotAttributes, Locate, Located,
     Payload, Register, Revoke,
@@ -48,6 +49,21 @@ pub fn copy_locate(alloc: Global, locate: &Locate) -> Result<Locate, AllocError>
 {
     Ok(Locate {
         filter: Box::new(alloc, locate.filter.copy(alloc)?)?,
+    })
+}
+
+/// A Locate by the same filters, with this maximum.
+pub fn limited(alloc: Global, locate: &Locate, most: i32) -> Result<Locate, AllocError>
+    ensures { IfOk result (λ copy. locate_of copy ≡ record (locate_of locate.now) { maximum = Some most }) }
+{
+    Ok(Locate {
+        filter: Box::new(
+            alloc,
+            Filter {
+                maximum: Some(most),
+                ..locate.filter.copy(alloc)?
+            },
+        )?,
     })
 }
 

@@ -1,12 +1,12 @@
-//! The part of an item on one object.
+//! The part of an item on some objects.
 
-ghost use Rattle.std.specs.Prelude.{◌≡◌, ◌≢◌, ◌↔◌, ℕ, List, Option, IsTrue, map, None, Some, IfOk, IfSome, bytes_eq, false, true};
+ghost use Rattle.std.specs.Prelude.{◌≡◌, ◌≢◌, ℕ, pos, List, Option, length, map, None, Some, IfOk, IfSome, bytes_eq, false, true};
 ghost use Rattle.kmipa_msgs.specs.Messages.{answer_of, ask_of, asked_of, idles, lent, locate_of, located, located_of, locates, maybe_lent};
 ghost use Rattle.kmipa_ops.specs.Locate.{is_full};
-ghost use Rattle.kmipa_parts.specs.Parts.{IsIdle, IsPart, LeavesBe, is_change, only_this};
-ghost use Rattle.kmipa_parts.specs.Making.{IsStay, TellsAlone};
+ghost use Rattle.kmipa_parts.specs.Parts.{IsIdle, IsPart, LeavesBe, filter_own, is_among, is_change, is_own, only_own};
+ghost use Rattle.kmipa_parts.specs.Making.{IsStay};
 
-use crate::copies::{copy_answer, copy_locate, written};
+use crate::copies::{copy_answer, copy_locate, limited, written};
 use crate::subject::about;
 use kmipa_msgs::{Answer, Ask, Asked, Locate, Located, Payload, Status};
 use std::alloc::{AllocError, Global};
@@ -14,42 +14,47 @@ use std::alloc::{AllocError, Global};
 /// The number of Query, an operation without effect (KMIP 2.1, section 6.1).
 const QUERY: u32 = 24;
 
-/// The part of an item on one object.
+/// The part of an item on some objects.
 #[derive(Drop)]
 pub struct PartItem<'a> {
     pub ask: Ask<'a>,
     pub answer: Answer<'a>,
 }
 
-/// The part of an item on the object of an identifier, where the ID Placeholder holds this before it. `None` where there is none: the
+/// The part of an item on the objects of these identifiers, where the ID Placeholder holds this before it. `None` where there is none: the
 /// item changes something, and it isn't known what.
 pub fn part_item<'a>(
     alloc: Global,
-    id: &'a str,
+    ids: &[&str],
     held: Option<&'a str>,
     ask: &Ask<'a>,
     answer: &Answer<'a>,
 ) -> Result<Option<PartItem<'a>>, AllocError>
     ensures { IfOk result
         (λ part. IfSome part
-        (λ item. IsPart id.now (maybe_lent held.entry) (ask_of ask.now) (answer_of answer.now) (ask_of item.ask)
+        (λ item. IsPart (is_among (map lent ids.now)) (maybe_lent held.entry) (ask_of ask.now) (answer_of answer.now) (ask_of item.ask)
         (answer_of item.answer))) }
 {
-    if is_this(id, about(held, ask, answer)) {
+    if let Some(id) = own_of(ids, about(held, ask, answer)) {
         return Ok(Some(stays(alloc, id, ask, answer)?));
     }
-    if let Some(item) = lists(alloc, id, ask, answer)? {
+    if let Some(item) = lists(alloc, ids, ask, answer)? {
         return Ok(Some(item));
     }
-    if leaves_be(id, held, ask, answer) {
+    if leaves_be(ids, held, ask, answer) {
         return Ok(Some(idle(answer.status)));
     }
     Ok(None)
 }
 
-/// Whether an item leaves the object of an identifier as it is: it failed, it only looks, or it is about another object.
-pub fn leaves_be<'a>(id: &str, held: Option<&'a str>, ask: &Ask<'a>, answer: &Answer<'a>) -> bool
-    ensures { result ≡ true → LeavesBe id.now (maybe_lent held.entry) (ask_of ask.now) (answer_of answer.now) }
+/// Whether an item leaves the objects of these identifiers as they are: it failed, it only looks, or it is about another object.
+pub fn leaves_be<'a>(
+    ids: &[&str],
+    held: Option<&'a str>,
+    ask: &Ask<'a>,
+    answer: &Answer<'a>,
+) -> bool
+    ensures { result ≡ true → LeavesBe (is_among (map lent ids.now)) (maybe_lent held.entry) (ask_of ask.now) (answer_of answer.now) }
 {
     if answer.status == Status::Failed {
         return true;
@@ -57,17 +62,40 @@ pub fn leaves_be<'a>(id: &str, held: Option<&'a str>, ask: &Ask<'a>, answer: &An
     if !is_change(&ask.asked) {
         return true;
     }
-    !is_this(id, about(held, ask, answer))
+    !is_own(ids, about(held, ask, answer))
 }
 
-/// Whether this is the identifier.
-fn is_this(id: &str, other: Option<&str>) -> bool
-    ensures { IsTrue result ↔ (maybe_lent other.entry ≡ Some id.now) }
+/// This identifier, if it is among these.
+fn own_of<'a>(ids: &[&str], id: Option<&'a str>) -> Option<&'a str>
+    ensures { IfSome result
+        (λ own. (maybe_lent id.entry ≡ Some own.now) × (is_among (map lent ids.now) own.now ≡ true)) }
 {
-    match other {
-        Some(other) => other == id,
+    match id {
+        Some(id) => { if is_among(ids, id) { Some(id) } else { None } }
+        None => None,
+    }
+}
+
+/// Whether an identifier is there, and among these.
+fn is_own(ids: &[&str], id: Option<&str>) -> bool
+    ensures { result ≡ is_own (is_among (map lent ids.now)) (maybe_lent id.entry) }
+{
+    match id {
+        Some(id) => is_among(ids, id),
         None => false,
     }
+}
+
+/// Whether an identifier is among these.
+pub fn is_among(ids: &[&str], id: &str) -> bool
+    ensures { result ≡ is_among (map lent ids.now) id.now }
+{
+    'ids: for own in ids {
+        if is_same(own, id) {
+            return true;
+        }
+    }
+    false
 }
 
 /// Whether an operation adds an object or changes one.
@@ -102,17 +130,17 @@ fn stays<'a>(
     })
 }
 
-/// A Locate that was done, as one that lists this object or nothing. `None` for another item, and where the object is left out and as many
-/// are listed as the maximum.
+/// A Locate that was done, as one that lists those of these objects that it listed. `None` for another item, and where none of them is listed and
+/// as many are as the maximum.
 fn lists<'a>(
     alloc: Global,
-    id: &'a str,
+    ids: &[&str],
     ask: &Ask<'a>,
     answer: &Answer<'a>,
 ) -> Result<Option<PartItem<'a>>, AllocError>
     ensures { (before : Option (List ℕ)) → IfOk result
         (λ part. IfSome part
-        (λ item. IsPart id.now before (ask_of ask.now) (answer_of answer.now) (ask_of item.ask)
+        (λ item. IsPart (is_among (map lent ids.now)) before (ask_of ask.now) (answer_of answer.now) (ask_of item.ask)
         (answer_of item.answer))) }
 {
     if is_failed(answer.status) {
@@ -122,7 +150,7 @@ fn lists<'a>(
         return Ok(None);
     };
     match &ask.asked {
-        Asked::Locate(locate) => list_part(alloc, id, ask, locate, answer, listing),
+        Asked::Locate(locate) => list_part(alloc, ids, ask, locate, answer, listing),
         _ => Ok(None),
     }
 }
@@ -140,7 +168,7 @@ fn listing_of<'c, 'a>(answer: &'c Answer<'a>) -> Option<&'c Located<'a>>
 /// The same of what was located.
 fn list_part<'a>(
     alloc: Global,
-    id: &'a str,
+    ids: &[&str],
     ask: &Ask<'a>,
     locate: &Locate,
     answer: &Answer<'a>,
@@ -150,17 +178,17 @@ fn list_part<'a>(
         → (answer_of answer.now).payload ≡ Some (located (located_of listing.now)) → answer.now.status ≢ Status.Failed
         → IfOk result
         (λ part. IfSome part
-        (λ item. IsPart id.now before (ask_of ask.now) (answer_of answer.now) (ask_of item.ask)
+        (λ item. IsPart (is_among (map lent ids.now)) before (ask_of ask.now) (answer_of answer.now) (ask_of item.ask)
         (answer_of item.answer))) }
 {
-    let own = only_this(alloc, id, &listing.ids)?;
-    if !tells_of(&own, maximum_of(locate), listing.ids.len()) {
+    let own = only_own(alloc, ids, &listing.ids)?;
+    let Some(part) = locate_own(alloc, locate, &listing.ids, &own)? else {
         return Ok(None);
-    }
+    };
     Ok(Some(PartItem {
         ask: Ask {
             batch_id: ask.batch_id,
-            asked: Asked::Locate(copy_locate(alloc, locate)?),
+            asked: Asked::Locate(part),
         },
         answer: Answer {
             operation: answer.operation,
@@ -183,6 +211,27 @@ fn is_failed(status: Status) -> bool
     }
 }
 
+/// A Locate's part, of what it listed, and what it listed of these objects: where as many are listed as the maximum, as many as are listed of
+/// these are its maximum. `None` where these are none, or too many for a number.
+fn locate_own(
+    alloc: Global,
+    locate: &Locate,
+    listed: &[&str],
+    own: &[&str],
+) -> Result<Option<Locate>, AllocError>
+    ensures { IfOk result
+        (λ part. IfSome part
+        (λ l. locate_of l ≡ filter_own (locate_of locate.now) (length (map lent listed.now)) (length (map lent own.now)))) }
+{
+    if !is_full(maximum_of(locate), listed.len()) {
+        return Ok(Some(copy_locate(alloc, locate)?));
+    }
+    match maximum_for(own.len()) {
+        Some(most) => Ok(Some(limited(alloc, locate, most)?)),
+        None => Ok(None),
+    }
+}
+
 /// How many a Locate may list.
 fn maximum_of(locate: &Locate) -> Option<i32>
     ensures { result ≡ (locate_of locate.now).maximum }
@@ -190,11 +239,14 @@ fn maximum_of(locate: &Locate) -> Option<i32>
     locate.filter.maximum
 }
 
-/// Whether a list tells of an object whether it must be listed or may be: these stand in it of the object, and so many in all.
-fn tells_of(own: &[&str], maximum: Option<i32>, count: usize) -> bool
-    ensures { result ≡ true → TellsAlone maximum count (map lent own.now) }
+/// So many as a maximum, unless there are none, or too many for a number.
+fn maximum_for(count: usize) -> Option<i32>
+    ensures { IfSome result (λ most. most ≡ pos count) }
 {
-    !own.is_empty() || !is_full(maximum, count)
+    if count == 0 {
+        return None;
+    }
+    i32::try_from(count).ok()
 }
 
 /// Whether as many are listed as the maximum.
@@ -207,13 +259,13 @@ fn is_full(maximum: Option<i32>, count: usize) -> bool
     }
 }
 
-/// Of a list of identifiers, this one as often as it stands there.
-fn only_this<'a>(alloc: Global, id: &str, listed: &[&'a str]) -> Result<Vec<&'a str>, AllocError>
-    ensures { IfOk result (λ own. map lent own.items ≡ only_this id.now (map lent listed.now)) }
+/// Of a list of identifiers, those among these, as often as they stand there.
+fn only_own<'a>(alloc: Global, ids: &[&str], listed: &[&'a str]) -> Result<Vec<&'a str>, AllocError>
+    ensures { IfOk result (λ own. map lent own.items ≡ only_own (is_among (map lent ids.now)) (map lent listed.now)) }
 {
     let mut own = Vec::new(alloc);
     'listed: for other in listed {
-        if is_same(id, other) {
+        if is_among(ids, other) {
             own.push(*other)?;
         }
     }

@@ -9,6 +9,7 @@ mod subject;
 mod touching;
 
 pub use call::{Part, leave_be, part_of};
+pub use item::is_among;
 pub use laws::{parts_are_placed, run_projects};
 pub use subject::{about, held_after};
 pub use touching::may_touch;

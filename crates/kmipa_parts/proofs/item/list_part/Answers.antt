@@ -1,9 +1,8 @@
-use Rattle.std.proofs.Common.{◌≡◌, ◌∙◌, ℕ, ℤ, List, Option, Some, length, map, refl, rules, sym, ap, subst, vec_len}
-use Rattle.std.proofs.lemmas.List.{length-map}
-use Rattle.kmipa_msgs.specs.Messages.{AskedOf, answer_of, ask_of, lent, locate_of, located, located_of, locates}
-use Rattle.kmipa_parts.specs.Making.{TellsAlone}
-use Rattle.kmipa_parts.specs.Parts.{TellsOf, only_this, lists}
-use Rattle.kmipa_parts.proofs.MakingLemmas.{tells_so}
+use Rattle.std.proofs.Common.{◌≡◌, ℕ, List, length, Option, Some, IfSome, map, ap, subst}
+use Rattle.kmipa_attrs.specs.Filters.{FilterOf}
+use Rattle.kmipa_msgs.specs.Messages.{answer_of, ask_of, lent, locate_of, located, located_of, locates}
+use Rattle.kmipa_msgs.specs.declared.request.Locate.{Locate}
+use Rattle.kmipa_parts.specs.Parts.{filter_own, is_among, lists, only_own}
 use Rattle.kmipa_parts.proofs.item.list_part.Goals as goal
 use denote.Bor.{Bor}
 
@@ -11,16 +10,14 @@ pub returns : goal.returns
 returns c = λ before asks shows done.
     let q = locate_of c.args.locate.now in
     let listed = located_of c.args.listing.now in
-    let O : List (Bor (List ℕ)) → Type 0 = λ xs. map lent c.in_ok-own.own.items ≡ only_this c.args.id.now (map lent xs) in
-    let own : map lent c.in_ok-own.own.items ≡ only_this c.args.id.now listed = subst O c.deref.ensures.value c.in_ok-own.ensures in
-    let M : Option ℤ → Type 0 = λ m. TellsAlone m c.len.result (map lent c.deref-2.result.now) in
-    let N : ℕ → Type 0 = λ n. TellsAlone q.maximum n (map lent c.deref-2.result.now) in
-    let L : List (List ℕ) → Type 0 = λ xs. TellsAlone q.maximum (length listed) xs in
-    let long : vec_len c.args.listing.now.ids ≡ length c.args.listing.now.ids.items = search rules in
-    let tells : TellsOf c.args.id.now q listed =
-    tells_so c.args.id.now q listed
-    (subst L (ap (map lent) c.deref-2.ensures.value ∙ own)
-    (subst N (c.len.ensures ∙ long ∙ sym (length-map c.args.listing.now.ids.items lent)) (subst M c.maximum_of.ensures (c.if-not-tells_of.ensures refl)))) in
-    lists q listed asks shows done tells
-    (ap (λ (a : AskedOf). record (ask_of c.args.ask.now) { asked = a }) (ap locates c.in_ok-copy_locate.ensures ∙ sym asks))
+    let ids = map lent c.args.ids.now in
+    let O : List (Bor (List ℕ)) → Type 0 = λ xs. map lent c.in_ok-own.own.items ≡ only_own (is_among ids) (map lent xs) in
+    let own : map lent c.in_ok-own.own.items ≡ only_own (is_among ids) listed = subst O c.deref.ensures.value c.in_ok-own.ensures in
+    let F : List (List ℕ) → List (List ℕ) → Type 0 = λ xs ys. locate_of c.in-Some.part ≡ filter_own q (length xs) (length ys) in
+    let S : Option Locate → Type 0 = λ o. IfSome o (λ (l : Locate). locate_of l ≡ filter_own q (length (map lent c.deref-2.result.now)) (length (map lent c.deref-3.result.now))) in
+    let made : F (map lent c.deref-2.result.now) (map lent c.deref-3.result.now) = subst S c.in-Some.is c.in_ok-part.ensures in
+    let seen : F listed (map lent c.deref-3.result.now) = subst (λ (xs : List (Bor (List ℕ))). F (map lent xs) (map lent c.deref-3.result.now)) c.deref-2.ensures.value made in
+    let part : F listed (only_own (is_among ids) listed) = subst (λ (ys : List (List ℕ)). F listed ys) own (subst (λ (ys : List (Bor (List ℕ))). F listed (map lent ys)) c.deref-3.ensures.value seen) in
+    lists q listed asks shows done
+    (ap (λ (f : FilterOf). record (ask_of c.args.ask.now) { asked = locates f }) part)
     (ap (λ (xs : List (List ℕ)). record (answer_of c.args.answer.now) { payload = Some (located xs) }) own)
