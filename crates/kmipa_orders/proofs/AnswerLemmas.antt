@@ -1,5 +1,5 @@
 -- What a search answers.
-use Rattle.std.proofs.Common.{◌≡◌, ◌≢◌, ◌<◌, ◌≤◌, ◌⊎◌, inl, inr, ℕ, zero, suc, ℤ, Bool, true, false, List, [], ◌∷◌, map, length, get_or, Option, Some, None, All, Contains, Result, Ok, Err, refl, sym, ap, ◌∙◌, subst, arith}
+use Rattle.std.proofs.Common.{◌≡◌, ◌≢◌, ◌<◌, ◌≤◌, ◌⊎◌, inl, inr, ℕ, zero, suc, ℤ, pos, Bool, true, false, List, [], ◌∷◌, map, length, get_or, Option, Some, None, All, Contains, Result, Ok, Err, refl, sym, ap, ◌∙◌, subst, arith}
 use Rattle.std.specs.Prelude.{AllPairs, IfSome}
 use Rattle.std.proofs.lemmas.List.{length-map}
 use Rattle.std.proofs.lemmas.Option.{slice_get-get_or}
@@ -96,9 +96,10 @@ pub forced_is_light_lem : ForcedIsLight
 forced_is_light_lem calls f = omega (arith, light f.steps f.apart, plain_long calls f.steps f.plain)
 
 -- forced, or not
-pub reported_forced : (calls : List CallOf) (steps : List StepOf) (forced : Bool) → ArePlain calls steps → Decided forced (AllPairs AreApart steps) → Decided forced (IsForced calls)
-reported_forced calls steps true plain apart = record { steps = steps; plain = plain; apart = apart }
-reported_forced calls steps false plain never = λ f. let P : List StepOf → Type 0 = λ ss. AllPairs AreApart ss in never (subst P (same_steps calls f.steps steps f.plain plain) f.apart)
+pub reported_forced : (tolerance : ℤ) (calls : List CallOf) (steps : List StepOf) (forced : Bool) → ArePlain calls steps → Decided forced (AllPairs (AreApart tolerance) steps)
+    → Decided forced (IsForced tolerance calls)
+reported_forced tolerance calls steps true plain apart = record { steps = steps; plain = plain; apart = apart }
+reported_forced tolerance calls steps false plain never = λ f. let P : List StepOf → Type 0 = λ ss. AllPairs (AreApart tolerance) ss in never (subst P (same_steps calls f.steps steps f.plain plain) f.apart)
 
 module _ (marks : List MarkOf) (declared : DeclarationOf) (calls : List CallOf) (steps : List StepOf) (laws : LawsOfCheck) (r : AreRecorded marks) (are : AreCalls marks calls) (plain : ArePlain calls steps) where
   numbers_once : AllPairs (λ (x y : ℤ). x ≢ y) (map (λ (c : CallOf). c.number) calls)

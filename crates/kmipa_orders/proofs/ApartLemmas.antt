@@ -1,7 +1,7 @@
--- Calls that are apart where those side by side in the order of stamps are.
-use Rattle.std.proofs.Common.{◌≡◌, ◌<◌, ◌≤◌, ◌<ℤ◌, ◌≤ℤ◌, inl, inr, ℕ, zero, suc, ◌+◌, ◌-◌, ℤ, true, false, nat_lt, List, length, get_or, sym, ap, ◌∙◌, subst, arith}
+-- Calls that are apart at their stamps where those side by side in the order of these are.
+use Rattle.std.proofs.Common.{◌≡◌, ◌<◌, ◌≤◌, ◌<ℤ◌, ◌≤ℤ◌, inl, inr, ℕ, zero, suc, ◌+◌, ◌-◌, ℤ, pos, true, false, nat_lt, List, length, get_or, sym, ap, ◌∙◌, subst, arith}
 use Rattle.std.specs.Prelude.{AllPairs, int_lt}
-use Rattle.std.specs.Int.Signed.{<ℤ_irrefl, lt_z_yes}
+use Rattle.std.specs.Int.Signed.{<ℤ_irrefl, lt_z_yes, ≤ℤ_refl}
 use Rattle.std.proofs.lemmas.Int.{by_lt_z}
 use Rattle.std.proofs.lemmas.Float.{T_from_true}
 use Rattle.std.proofs.lemmas.Bool.{lt-ltb, ltb-true}
@@ -14,7 +14,7 @@ use Rattle.kmipa_orders.specs.Links.{at}
 use Rattle.kmipa_orders.specs.Ranks.{IsRanked, ByStamp, HasRank, end_of, AreEnded, AreClosed, parts}
 use Rattle.kmipa_orders.proofs.NextTestLemmas.{either_true, neither, true_of}
 use Rattle.kmipa_orders.proofs.LinksLemmas.{which}
-use Rattle.kmipa_orders.proofs.ForcedLemmas.{antisym}
+use Rattle.kmipa_orders.proofs.ForcedLemmas.{antisym, near_as_one, one_as_near}
 use Rattle.kmipa_orders.proofs.RankLemmas.{by_stamp_least, same_place, before_less, less_before}
 
 module _ (calls : List StepOf) (O K : List ℕ) (ranked : IsRanked (length calls) (ByStamp calls) O K) (has : HasRank (length calls) K) where
@@ -40,7 +40,7 @@ module _ (calls : List StepOf) (O K : List ℕ) (ranked : IsRanked (length calls
     same_or_less p q (inr same) no_less = same
 
     -- two that are side by side and not apart
-    pub not_apart : (r : ℕ) → 0 < r → r < length calls → parts (step_at calls (at O r)) (step_at calls (at O (r + 1))) ≡ false → AllPairs AreApart calls → ⊥
+    pub not_apart : (r : ℕ) → 0 < r → r < length calls → parts (step_at calls (at O r)) (step_at calls (at O (r + 1))) ≡ false → AllPairs (AreApart (pos 0)) calls → ⊥
     not_apart r some within is all =
         let p = at O r in
         let q = at O (r + 1) in
@@ -49,7 +49,8 @@ module _ (calls : List StepOf) (O K : List ℕ) (ranked : IsRanked (length calls
         let b = (placed (r + 1) (omega arith) (omega (arith, within))).0 in
         let a = (placed r some (omega (arith, within))).0 in
         elim (all p q no_step s.1 b) [
-          | inl apart ↦ apart s.0
+          | inl apart ↦ let N : ℤ → Type 0 = λ z. z ≤ℤ stamp q in let M : ℤ → Type 0 = λ z. stamp q ≤ℤ z in
+              apart (near_as_one (stamp p) (stamp q) (subst N (sym s.0) (≤ℤ_refl (stamp q))) (subst M (sym s.0) (≤ℤ_refl (stamp q))))
           | inr g ↦ elim g [
             | inl before ↦ let e : nat_lt (end_of (step_at calls p)) (step_at calls q).begin ≡ true = lt-ltb _ _ (before_less (step_at calls p) (step_at calls q) (ended p a) before) in let m = n.1 in cc
             | inr before ↦ omega (arith, before_less (step_at calls q) (step_at calls p) (ended q b) before, begun p q s.1 b, closed q b)
@@ -104,14 +105,14 @@ module _ (calls : List StepOf) (O K : List ℕ) (ranked : IsRanked (length calls
           let R : ℕ → Type 0 = λ y. stamp p ≡ stamp y → end_of (step_at calls p) < (step_at calls y).begin in
           subst R b.2 (subst Q a.2 (subst P e (chain k (at K p) a.0) b.1)) same
 
-      pub all_apart : AllPairs AreApart calls
+      pub all_apart : AllPairs (AreApart (pos 0)) calls
       all_apart i j d less within =
-          let P : StepOf → Type 0 = λ x. AreApart x (get_or calls j d) in
-          let Q : StepOf → Type 0 = λ y. AreApart (step_at calls i) y in
+          let P : StepOf → Type 0 = λ x. AreApart (pos 0) x (get_or calls j d) in
+          let Q : StepOf → Type 0 = λ y. AreApart (pos 0) (step_at calls i) y in
           subst P (same i (omega (arith, less, within))) (subst Q (same j within) (by_lt_z (stamp i) (stamp j)
-          (λ h. inl (λ e. let R : ℤ → Type 0 = λ z. stamp i <ℤ z in <ℤ_irrefl (subst R (sym e) h)))
+          (λ h. inl (λ near. let R : ℤ → Type 0 = λ z. stamp i <ℤ z in <ℤ_irrefl (subst R (sym (one_as_near (stamp i) (stamp j) near)) h)))
           (λ h. by_lt_z (stamp j) (stamp i)
-          (λ g. inl (λ e. let R : ℤ → Type 0 = λ z. stamp j <ℤ z in <ℤ_irrefl (subst R e g)))
+          (λ g. inl (λ near. let R : ℤ → Type 0 = λ z. stamp j <ℤ z in <ℤ_irrefl (subst R (one_as_near (stamp i) (stamp j) near) g)))
           (λ g. inr (inl (less_before (step_at calls i) (step_at calls j) (ended i (omega (arith, less, within))) (before i j less within (antisym (stamp i) (stamp j) g h))))))))
         where
           same : (k : ℕ) → k < length calls → step_at calls k ≡ get_or calls k d

@@ -1,9 +1,11 @@
--- Where the calls are forced, there is one next call at most.
-use Rattle.std.proofs.Common.{◌≡◌, ◌<◌, ◌≤◌, inl, inr, ℕ, zero, suc, ◌+◌, ℤ, pos, negsuc, ◌≤ℤ◌, Bool, true, false, cond, List, [], ◌∷◌, length, get_or, Some, slice_get, refl, ap, subst, arith}
+-- Where the calls are forced at their stamps, there is one next call at most.
+use Rattle.std.proofs.Common.{◌≡◌, ◌<◌, ◌≤◌, inl, inr, ℕ, zero, suc, ◌+◌, ℤ, pos, negsuc, ◌+ℤ◌, ◌≤ℤ◌, Bool, true, false, cond, List, [], ◌∷◌, length, get_or, Some, slice_get, refl, sym, ap, subst, arith}
 use Rattle.std.specs.Prelude.{AllPairs}
 use Rattle.std.proofs.lemmas.Option.{slice_get_within, get_or_from_slice_get}
 use Rattle.std.proofs.Math.Nat.{le_antisymm}
 use Rattle.std.proofs.Math.Facts.{leb_yes}
+use Rattle.std.proofs.Math.IntN.{+ℤ_idr}
+use Rattle.kmipa_check.specs.Moments.{IsNear}
 use Rattle.kmipa_check.specs.Steps.{StepOf}
 use Rattle.kmipa_orders.specs.Plain.{AreApart}
 use Rattle.kmipa_orders.specs.Next.{IsNext, is_next, sum_from, weigh, weight}
@@ -41,10 +43,23 @@ antisym (pos m) (negsuc n) p q = absurd p.le
 antisym (negsuc m) (pos n) p q = absurd q.le
 antisym (negsuc m) (negsuc n) p q = ap negsuc (le_antisymm (leb_yes q.le) (leb_yes p.le))
 
-module _ (calls : List StepOf) (apart : AllPairs AreApart calls) where
+-- stamps that are no second apart
+pub near_as_one : (a b : ℤ) → a ≤ℤ b → b ≤ℤ a → IsNear (pos 0 +ℤ pos 0) a b
+near_as_one a b low high =
+    let P : ℤ → Type 0 = λ z. b ≤ℤ z in
+    let Q : ℤ → Type 0 = λ z. a ≤ℤ z in
+    (subst P (sym (+ℤ_idr a)) high, subst Q (sym (+ℤ_idr b)) low)
+
+pub one_as_near : (a b : ℤ) → IsNear (pos 0 +ℤ pos 0) a b → a ≡ b
+one_as_near a b near =
+    let P : ℤ → Type 0 = λ z. b ≤ℤ z in
+    let Q : ℤ → Type 0 = λ z. a ≤ℤ z in
+    antisym a b (subst Q (+ℤ_idr b) near.1) (subst P (+ℤ_idr a) near.0)
+
+module _ (calls : List StepOf) (apart : AllPairs (AreApart (pos 0)) calls) where
   one_next : (taken : List ℕ) (p q : ℕ) → p < q → IsNext calls taken p → IsNext calls taken q → ⊥
-  one_next taken p q below a b = elim (pair_at AreApart calls p q a.call b.call apart below a.there b.there) [
-    | inl differ ↦ differ (antisym a.call.response.stamp b.call.response.stamp (a.least q b.call b.there b.left) (b.least p a.call a.there a.left))
+  one_next taken p q below a b = elim (pair_at (AreApart (pos 0)) calls p q a.call b.call apart below a.there b.there) [
+    | inl differ ↦ differ (near_as_one a.call.response.stamp b.call.response.stamp (a.least q b.call b.there b.left) (b.least p a.call a.there a.left))
     | inr g ↦ elim g [
       | inl before ↦ b.first p a.call a.there a.left before
       | inr before ↦ a.first q b.call b.there b.left before

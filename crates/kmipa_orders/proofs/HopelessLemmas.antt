@@ -256,9 +256,12 @@ module _ (g : GrantsOf) (c : CallOf) (response : ResponseOf) (unrefused : Refuse
       (born_off g births place ask posed.0 filled.0 (born.each place ask posed.0 wanted posed.1)
       (off_filled c.request response fills place ask answer filled.0 (f.each place answer filled.0 said filled.1) off)) done.does
 
-pub hopeless_call : (c : CallOf) (end : ℕ) (response : ResponseOf) → c.end ≡ Some end → c.response ≡ Some response → (RefusesMessage response → ⊥) → (place : ℕ)
-    → IsOffAt c.request response place → IsHopeless c
-hopeless_call c end response ended said unrefused place off = record { end = end; ended = ended; never = never }
+-- a call that no turn takes as it was answered is hopeless
+pub never_taken : (c : CallOf) (end : ℕ) (response : ResponseOf) → c.end ≡ Some end → c.response ≡ Some response
+    → ((g : GrantsOf) (t : TurnOf) (full : ResponseOf) → IsFilled c.request response t.fills full → (asked : RequestOf) → IsBorn g c.request response t.births asked
+    → (moment : ℤ) (order : Option (List ℕ)) → MayTake asked (at_moment full moment) order → (rules : RulesOf) (V W : List Thing) → CallSomeAlong rules V asked (at_moment full moment) order W → ⊥)
+    → IsHopeless c
+never_taken c end response ended said none = record { end = end; ended = ended; never = never }
   where
     never : (g : GrantsOf) (t : TurnOf) (s : StepOf) → IsStep g c t s → (rules : RulesOf) (V W : List Thing) → CallSomeAlong rules V s.request s.response (order_of s) W → ⊥
     never g t s i rules V W call = by i.answered
@@ -274,9 +277,15 @@ hopeless_call c end response ended said unrefused place off = record { end = end
             let same : i.response ≡ response = cc in
             let F : ResponseOf → Type 0 = λ r. IsFilled c.request r t.fills i.full in
             let B : ResponseOf → Type 0 = λ r. IsBorn g c.request r t.births i.asked in
-            place_never g c response unrefused t.fills i.full (subst F same i.filled) t.births i.asked (subst B same i.born) i.moment (order_given i.places)
-            (may_take i.asked (at_moment i.full i.moment) i.places (subst M i.is (step_taken g c t s i))) rules V W (subst C i.is call) place off
+            none g t i.full (subst F same i.filled) i.asked (subst B same i.born) i.moment (order_given i.places)
+            (may_take i.asked (at_moment i.full i.moment) i.places (subst M i.is (step_taken g c t s i))) rules V W (subst C i.is call)
         by (given bytes is answer are) = absurd cc
+
+pub hopeless_call : (c : CallOf) (end : ℕ) (response : ResponseOf) → c.end ≡ Some end → c.response ≡ Some response → (RefusesMessage response → ⊥) → (place : ℕ)
+    → IsOffAt c.request response place → IsHopeless c
+hopeless_call c end response ended said unrefused place off =
+    never_taken c end response ended said (λ g t full f asked born moment order may rules V W call.
+    place_never g c response unrefused t.fills full f t.births asked born moment order may rules V W call place off)
 
 -- ---- the law
 

@@ -18,6 +18,7 @@ pub mod RemainingLemmas
 pub mod ReachedLemmas
 pub mod SortLemmas
 pub mod ApartLemmas
+pub mod FarLemmas
 pub mod GuessLemmas
 pub mod DescentLemmas
 pub mod PickLemmas

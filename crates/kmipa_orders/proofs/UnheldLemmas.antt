@@ -37,7 +37,7 @@ use Rattle.kmipa_check.proofs.PlacesLemmas.{may_take, refused_at, step_taken}
 use Rattle.kmipa_orders.specs.Candidates.{candidate_call}
 use Rattle.kmipa_orders.specs.Hopeless.{IsHopeless}
 use Rattle.kmipa_orders.specs.declared.candidate.Candidate.{Candidate}
-use Rattle.kmipa_orders.proofs.HopelessLemmas.{refused_before}
+use Rattle.kmipa_orders.proofs.HopelessLemmas.{never_taken, refused_before}
 use Rattle.kmipa_orders.specs.Unheld.{is_of_none, is_unnamed, is_whole, IsUnheld, IsUnheldAmong, IsUnheldCall}
 
 -- ---- what was done on an object means one
@@ -211,25 +211,9 @@ module _ (c : CallOf) (response : ResponseOf) (unrefused : RefusesMessage respon
       (batch_of_call rules V asked (at_moment full moment) order W (λ r. unrefused (refused_before c.request response t.fills full f (refused_at full moment r))) call) u
 
 unheld_call : (c : CallOf) (end : ℕ) (response : ResponseOf) → c.end ≡ Some end → c.response ≡ Some response → (RefusesMessage response → ⊥) → IsUnheldCall c.request response → IsHopeless c
-unheld_call c end response ended said unrefused u = record { end = end; ended = ended; never = never }
-  where
-    never : (g : GrantsOf) (t : TurnOf) (s : StepOf) → IsStep g c t s → (rules : RulesOf) (V W : List Thing) → CallSomeAlong rules V s.request s.response (order_of s) W → ⊥
-    never g t s i rules V W call = by i.answered
-      where
-        C : StepOf → Type 0
-        C x = CallSomeAlong rules V x.request x.response (order_of x) W
-
-        M : StepOf → Type 0
-        M x = MayBeTaken x.request x.response x.places
-
-        by : IsAnswered c t i.response → ⊥
-        by (recorded is bare) =
-            let same : i.response ≡ response = cc in
-            let F : ResponseOf → Type 0 = λ r. IsFilled c.request r t.fills i.full in
-            let B : ResponseOf → Type 0 = λ r. IsBorn g c.request r t.births i.asked in
-            call_never c response unrefused g t i.full (subst F same i.filled) i.asked (subst B same i.born) i.moment rules V W (order_given i.places)
-            (may_take i.asked (at_moment i.full i.moment) i.places (subst M i.is (step_taken g c t s i))) (subst C i.is call) u
-        by (given bytes is answer are) = absurd cc
+unheld_call c end response ended said unrefused u =
+    never_taken c end response ended said (λ g t full f asked born moment order may rules V W call.
+    call_never c response unrefused g t full f asked born moment rules V W order may call u)
 
 pub unheld_of : (c : CallOf) (own : Candidate) (reported : Bool) → candidate_call own ≡ c → (RefusesMessage (response_of own.response.now) → ⊥)
     → (reported ≡ true → IsUnheldCall (request_of own.request.now) (response_of own.response.now)) → reported ≡ true → IsHopeless c

@@ -1,5 +1,5 @@
--- What one object says of calls: where the parts of the calls on it have no run, the calls have none.
-use Rattle.std.specs.Prelude.{◌≡◌, ◌≢◌, ◌⊎◌, ℕ, List, [], Option, Some, None, AllPairs, bytes_eq}
+-- What some objects say of calls, one or several: where the parts of the calls on them have no run, the calls have none.
+use Rattle.std.specs.Prelude.{◌≡◌, ◌≢◌, ◌⊎◌, ℕ, List, [], Option, Some, None, AllPairs}
 use Rattle.std.specs.List.{filter, filter_map, AllZip}
 use Rattle.kmipa_record.specs.Marks.{MarkOf, AreRecorded}
 use Rattle.kmipa_record.specs.Declarations.{DeclarationOf}
@@ -9,14 +9,14 @@ use Rattle.kmipa_check.specs.Calls.{CallOf, AreCalls}
 use Rattle.kmipa_check.specs.Grants.{GrantsNothing, grants_declared}
 use Rattle.kmipa_check.specs.Runs.{IsExplained}
 use Rattle.kmipa_check.specs.Steps.{StepOf}
-use Rattle.kmipa_parts.specs.Parts.{AreParts, IsElsewhere, IsPartOf, MayTouch}
+use Rattle.kmipa_parts.specs.Parts.{OwnOf, is_among, AreParts, IsElsewhere, IsPartOf, MayTouch}
 use Rattle.kmipa_orders.specs.Plain.{IsPlainStep}
 use Rattle.kmipa_orders.specs.declared.by_object.CallPart.{CallPart}
 use Rattle.kmipa_orders.specs.Progress.{AllReadable, AreBegun, AreTimed, HaveRun}
 
--- what is declared of one object, and of no other
-abbrev pub declared_on : List ℕ → DeclarationOf → DeclarationOf
-declared_on id declared = record declared { entries = filter (λ (e : EntryOf). bytes_eq id e.id) declared.entries; asides = [] }
+-- what is declared of some objects, and of no other
+abbrev pub declared_on : OwnOf → DeclarationOf → DeclarationOf
+declared_on own declared = record declared { entries = filter (λ (e : EntryOf). own e.id) declared.entries; asides = [] }
 
 -- the part of a call as a step
 abbrev pub part_step : CallPart → StepOf
@@ -36,37 +36,37 @@ pub record AreOrderly (calls : List StepOf) : Type 0 where
   pub begun : AreBegun calls
   pub timed : AreTimed calls
 
--- By object: where calls have a run from a described inventory, their parts on an object have one from what is declared of it.
+-- By object: where calls have a run from a described inventory, their parts on some objects have one from what is declared of these.
 abbrev pub RunsByObject : Type 0
 RunsByObject =
-    (declared : DeclarationOf) (id : List ℕ) (calls parts : List StepOf) → AllReadable calls → AreBegun calls → AreParts id calls parts
-    → HaveRun declared calls → HaveRun (declared_on id declared) parts
+    (declared : DeclarationOf) (own : OwnOf) (calls parts : List StepOf) → AllReadable calls → AreBegun calls → AreParts own calls parts
+    → HaveRun declared calls → HaveRun (declared_on own declared) parts
 
 -- ---- calls of a transcript, of which some may not be plain
 
--- What a call does to one object: a plain one has this part on it, or none where it leaves the object as it is; one that isn't plain has none, and
--- may not touch the object, whatever it is answered. [profile]
-abbrev pub IsCallPart : List ℕ → CallOf → Option StepOf → Type 0
-IsCallPart id c (Some part) = (s : StepOf) × IsPlainStep c s × IsPartOf id s part
-IsCallPart id c None = ((s : StepOf) × IsPlainStep c s × IsElsewhere id s) ⊎ (MayTouch id c.request → ⊥)
+-- What a call does to some objects: a plain one has this part on them, or none where it leaves them as they are; one that isn't plain has none,
+-- and may touch none of them, whatever it is answered. [profile]
+abbrev pub IsCallPart : OwnOf → CallOf → Option StepOf → Type 0
+IsCallPart own c (Some part) = (s : StepOf) × IsPlainStep c s × IsPartOf own s part
+IsCallPart own c None = ((s : StepOf) × IsPlainStep c s × IsElsewhere own s) ⊎ (MayTouch own c.request → ⊥)
 
--- the parts of all calls on one object
-pub record AreCallParts (id : List ℕ) (calls : List CallOf) (parts : List StepOf) : Type 0 where
+-- the parts of all calls on some objects
+pub record AreCallParts (own : OwnOf) (calls : List CallOf) (parts : List StepOf) : Type 0 where
   pub each : List (Option StepOf)
-  pub of_calls : AllZip (IsCallPart id) calls each
+  pub of_calls : AllZip (IsCallPart own) calls each
   pub are : parts ≡ filter_map (λ (part : Option StepOf). part) each
 
--- One object refutes these calls: their parts on it have no run from what is declared of it.
-pub record RefutesCalls (declared : DeclarationOf) (calls : List CallOf) (id : List ℕ) : Type 0 where
+-- The objects of these identifiers refute the calls: the parts of the calls on them have no run from what is declared of them.
+pub record RefutesCalls (declared : DeclarationOf) (calls : List CallOf) (ids : List (List ℕ)) : Type 0 where
   pub parts : List StepOf
-  pub of_calls : AreCallParts id calls parts
-  pub none : HaveRun (declared_on id declared) parts → ⊥
+  pub of_calls : AreCallParts (is_among ids) calls parts
+  pub none : HaveRun (declared_on (is_among ids) declared) parts → ⊥
 
--- it refutes those of a transcript
-abbrev pub IsRefutedBy : List MarkOf → DeclarationOf → List ℕ → Type 0
-IsRefutedBy marks declared id = (calls : List CallOf) × AreCalls marks calls × RefutesCalls declared calls id
+-- they refute those of a transcript
+abbrev pub IsRefutedBy : List MarkOf → DeclarationOf → List (List ℕ) → Type 0
+IsRefutedBy marks declared ids = (calls : List CallOf) × AreCalls marks calls × RefutesCalls declared calls ids
 
--- By one object: where it refutes a transcript, and the declaration grants nothing, no order explains every answer.
+-- By objects: where some refute a transcript, one or several, and the declaration grants nothing, no order explains every answer.
 abbrev pub RefutedByObject : Type 0
 RefutedByObject =
-    (marks : List MarkOf) (declared : DeclarationOf) (id : List ℕ) → GrantsNothing (grants_declared declared) → AreRecorded marks → IsRefutedBy marks declared id → IsExplained marks declared → ⊥
+    (marks : List MarkOf) (declared : DeclarationOf) (ids : List (List ℕ)) → GrantsNothing (grants_declared declared) → AreRecorded marks → IsRefutedBy marks declared ids → IsExplained marks declared → ⊥

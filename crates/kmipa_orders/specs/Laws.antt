@@ -1,5 +1,5 @@
 -- Laws: where a search decides, and what the words of its promise come to.
-use Rattle.std.specs.Prelude.{◌≡◌, ◌≢◌, ◌≤◌, ◌⊎◌, ◌↔◌, ℕ, Bool, true, false, List, ◌∷◌, length, AllPairs, IsPermutation}
+use Rattle.std.specs.Prelude.{◌≡◌, ◌≢◌, ◌≤◌, ◌⊎◌, ◌↔◌, ℕ, pos, Bool, true, false, List, ◌∷◌, length, AllPairs, IsPermutation}
 use Rattle.kmipa_store.specs.Choices.{IsSound}
 use Rattle.kmipa_store.specs.Ledger.{Meaning}
 use Rattle.kmipa_record.specs.Marks.{MarkOf, AreRecorded}
@@ -27,9 +27,9 @@ is_yes (Refuted count object) = false
 is_yes (Impossible count place) = false
 is_yes (OutOfTime count after) = false
 
--- the budget is enough for every try, or, of forced calls, to try each once
+-- the budget is enough for every try, or, of calls that are forced at their stamps, to try each once
 abbrev pub IsEnough : List CallOf → ℕ → Type 0
-IsEnough calls budget = ((steps : List StepOf) × ArePlain calls steps × (weight steps ≤ budget)) ⊎ (IsForced calls × (length calls ≤ budget))
+IsEnough calls budget = ((steps : List StepOf) × ArePlain calls steps × (weight steps ≤ budget)) ⊎ (IsForced (pos 0) calls × (length calls ≤ budget))
 
 -- then, where the declaration grants nothing, a search says yes exactly where the transcript is explained
 abbrev pub EnoughDecides : Type 0
@@ -37,9 +37,9 @@ EnoughDecides = (marks : List MarkOf) (declared : DeclarationOf) (calls : List C
     → GrantsNothing (grants_declared declared) → AreRecorded marks → AreCalls marks calls → IsEnough calls budget → Finds marks declared budget found
     → Decided (is_yes found) (IsExplained marks declared)
 
--- of forced calls the weight is at most their number
+-- of calls that are forced at their stamps the weight is at most their number
 abbrev pub ForcedIsLight : Type 0
-ForcedIsLight = (calls : List CallOf) (f : IsForced calls) → weight f.steps ≤ length calls
+ForcedIsLight = (calls : List CallOf) (f : IsForced (pos 0) calls) → weight f.steps ≤ length calls
 
 -- the test by which tries are counted is true exactly of what may be next
 abbrev pub NextIsTested : Type 0

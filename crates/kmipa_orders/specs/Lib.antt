@@ -3,6 +3,7 @@ pub mod Next
 pub mod Cursors
 pub mod Found
 pub mod Forced
+pub mod Far
 pub mod Laws
 pub mod LawsOfCheck
 pub mod Candidates

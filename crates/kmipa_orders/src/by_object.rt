@@ -1,13 +1,14 @@
-//! What one object says of calls: where the parts of the calls on it have no run, the calls have none.
+//! What some objects say of calls, one or those that bear one name: where the parts of the calls on them have no run, the calls have none.
 
-ghost use Rattle.std.specs.Prelude.{◌≡◌, ◌<◌, ℕ, IfErr, IfOk, IfSome, List, None, Some, bytes_eq, map, option_map, true};
+ghost use Rattle.std.specs.Prelude.{◌≡◌, ◌<◌, ℕ, IfErr, IfOk, IfSome, List, None, Some, map, option_map, true};
 ghost use Rattle.std.specs.String.{string_bytes};
 ghost use Rattle.kmipa_record.specs.Declarations.{AreDeclared, declaration_of};
 ghost use Rattle.kmipa_record.specs.Marks.{AreRecorded, MarkOf};
 ghost use Rattle.kmipa_check.specs.Calls.{AreCalls, call_of};
 ghost use Rattle.kmipa_check.specs.Grants.{GrantsNothing, grants_declared};
 ghost use Rattle.kmipa_record.specs.Entries.{entry_of, items_of};
-ghost use Rattle.kmipa_parts.specs.Parts.{IsElsewhere, IsPartOf};
+ghost use Rattle.kmipa_parts.specs.Parts.{IsElsewhere, IsPartOf, is_among};
+ghost use Rattle.kmipa_msgs.specs.Messages.{lent};
 ghost use Rattle.kmipa_orders.specs.ByObject.{AreCallParts, AreOrderly, IsCallPart, RefutesCalls, declared_on, part_step};
 ghost use Rattle.kmipa_orders.specs.Candidates.{candidate_step};
 ghost use Rattle.kmipa_orders.specs.Found.{Finds, FindsIn, Searches, SearchesIn};
@@ -24,11 +25,11 @@ use crate::suspects::{Suspect, Suspects, named_objects};
 use crate::watch::Unwatched;
 use kmipa_batch::is_readable_call;
 use kmipa_check::{CheckFault, open_ledger, rules_of_declaration};
-use kmipa_parts::{Part, leave_be, may_touch, part_of};
+use kmipa_parts::{Part, is_among, leave_be, may_touch, part_of};
 use kmipa_record::{Call, Declaration, Entry};
 use std::alloc::{AllocError, Global};
 
-/// The part of a call on one object.
+/// The part of a call on some objects.
 #[derive(Drop)]
 struct CallPart<'b, 'a> {
     call: &'b Call<'a>,
@@ -38,7 +39,7 @@ struct CallPart<'b, 'a> {
     part: Part<'a>,
 }
 
-/// So many steps are made for one object at most.
+/// So many steps are made for one object at most, or for those of one name.
 const MOST_STEPS: u64 = 20_000;
 
 /// So many steps are made for all objects at most.
@@ -47,7 +48,7 @@ const ALL_STEPS: u64 = 400_000;
 /// So many entries are looked at for all objects at most.
 const MOST_ENTRIES: usize = 20_000_000;
 
-/// What a search of the parts on one object came to.
+/// What a search of the parts on some objects came to.
 #[derive(Drop)]
 struct Looked {
     /// Whether there is no order of them.
@@ -56,17 +57,17 @@ struct Looked {
     steps: u64,
 }
 
-/// An object that refutes the calls.
+/// Objects that refute the calls.
 #[derive(Drop)]
-struct Refuting<'a> {
-    id: &'a str,
-    /// How many parts were tried for it.
+struct Refuting {
+    objects: Vec<String>,
+    /// How many parts were tried for them.
     steps: u64,
 }
 
-/// The objects are looked at, one after the other, until one is found of which the parts of the calls have no run. Then neither have the calls,
-/// and it is told with the steps that the search makes first and those that were made for this object, where they are fewer than the budget.
-/// None is looked at where the declaration grants anything.
+/// The objects are looked at, one after the other, then those together that bear one name, and then each two of these, until some are found of
+/// which the parts of the calls have no run. Then neither have the calls, and they are told with the steps that the search makes first and those
+/// that were made for these objects, where they are fewer than the budget. None is looked at where the declaration grants anything.
 pub fn search_by_object(
     alloc: Global,
     calls: &[Call],
@@ -89,8 +90,7 @@ pub fn search_by_object(
     if all >= budget {
         return Ok(None);
     }
-    let object = String::from_str(alloc, refuting.id)?;
-    Ok(Some(Found::Refuted(all, object)))
+    Ok(Some(Found::Refuted(all, refuting.objects)))
 }
 
 /// What a search answered; or where it gave up, with the same steps, that one object refutes the calls, or that the answer of one call is impossible
@@ -129,7 +129,7 @@ fn found_or_refuted(
     match found {
         Found::Yes(witness, steps) => Ok(Found::Yes(witness, steps)),
         Found::GaveUp(steps) => gave_up(alloc, calls, declaration, steps),
-        Found::Refuted(steps, object) => Ok(Found::Refuted(steps, object)),
+        Found::Refuted(steps, objects) => Ok(Found::Refuted(steps, objects)),
         Found::Impossible(steps, call) => Ok(Found::Impossible(steps, call)),
         Found::OutOfTime(steps, after) => Ok(Found::OutOfTime(steps, after)),
     }
@@ -154,10 +154,7 @@ fn gave_up(
     let Some(refuting) = refuted else {
         return unless_hopeless(alloc, calls, declaration, steps);
     };
-    let Ok(object) = String::from_str(alloc, refuting.id) else {
-        return Err(CheckFault::Memory);
-    };
-    Ok(Found::Refuted(steps, object))
+    Ok(Found::Refuted(steps, refuting.objects))
 }
 
 /// The same of one that gave up, and of which no object refutes the calls.
@@ -181,20 +178,20 @@ fn unless_hopeless(
     }
 }
 
-/// The first object that is found of which the parts of the calls have no run, where the declaration grants nothing: calls may else be taken at
+/// The first objects that are found of which the parts of the calls have no run, where the declaration grants nothing: calls may else be taken at
 /// other moments than their stamps, and nothing is refuted.
-fn first_refuted<'a>(
+fn first_refuted(
     alloc: Global,
     declaration: &Declaration,
-    calls: &[Call<'a>],
-) -> Result<Option<Refuting<'a>>, CheckFault>
+    calls: &[Call],
+) -> Result<Option<Refuting>, CheckFault>
     requires { AreDeclared (declaration_of declaration.now) }
     ensures nothing { IfOk result
         (λ refuting. IfSome refuting (λ r. GrantsNothing (grants_declared (declaration_of declaration.now)))) }
     ensures refutes { (marks : List MarkOf) → AreRecorded marks → AreCalls marks (map call_of calls.now)
         → IfOk result
         (λ refuting. IfSome refuting
-        (λ r. RefutesCalls (declaration_of declaration.now) (map call_of calls.now) r.id.now)) }
+        (λ r. RefutesCalls (declaration_of declaration.now) (map call_of calls.now) (map string_bytes r.objects.items))) }
 {
     if grants_nothing(declaration) {
         first_without_run(alloc, declaration, calls)
@@ -204,32 +201,34 @@ fn first_refuted<'a>(
 }
 
 /// The same, whatever the declaration grants. Objects are passed over that a call may touch which isn't plain.
-fn first_without_run<'a>(
+fn first_without_run<'x>(
     alloc: Global,
-    declaration: &Declaration,
-    calls: &[Call<'a>],
-) -> Result<Option<Refuting<'a>>, CheckFault>
+    declaration: &'x Declaration,
+    calls: &'x [Call<'x>],
+) -> Result<Option<Refuting>, CheckFault>
     requires { AreDeclared (declaration_of declaration.now) }
     ensures { (marks : List MarkOf) → AreRecorded marks → AreCalls marks (map call_of calls.now)
         → IfOk result
         (λ refuting. IfSome refuting
-        (λ r. RefutesCalls (declaration_of declaration.now) (map call_of calls.now) r.id.now)) }
+        (λ r. RefutesCalls (declaration_of declaration.now) (map call_of calls.now) (map string_bytes r.objects.items))) }
 {
-    let found = named_objects(alloc, calls)?;
-    if found
-        .objects
-        .len()
-        .saturating_mul(declaration.entries.len())
-        > MOST_ENTRIES
-    {
+    let found = named_objects(alloc, declaration, calls)?;
+    let entries = declaration.entries.len();
+    if found.alone.saturating_mul(entries) > MOST_ENTRIES {
         return Ok(None);
     }
+    let mut unread = MOST_ENTRIES;
     let mut left = ALL_STEPS;
     'objects: for object in &found.objects {
+        if unread < entries {
+            return Ok(None);
+        }
+        unread = unread.saturating_sub(entries);
         let looked = found_look(alloc, declaration, calls, &found, object, left)?;
         if looked.refuted {
             let places = found.places(alloc, object)?;
-            return refutes(alloc, declaration, calls, object.id, &places);
+            let ids = fewest(alloc, declaration, calls, &object.ids, &places)?;
+            return refutes(alloc, declaration, calls, &ids, &places);
         }
         left = left.saturating_sub(looked.steps);
         if left == 0 {
@@ -239,7 +238,7 @@ fn first_without_run<'a>(
     Ok(None)
 }
 
-/// Searches the parts of the calls on an object, unless a call may touch it that isn't plain.
+/// Searches the parts of the calls on some objects, unless a call may touch one that isn't plain.
 fn found_look<'a>(
     alloc: Global,
     declaration: &Declaration,
@@ -250,22 +249,23 @@ fn found_look<'a>(
 ) -> Result<Looked, CheckFault>
     requires { AreDeclared (declaration_of declaration.now) }
 {
-    if found.is_touched(calls, object.id) {
+    if found.is_touched(calls, &object.ids) {
         return Ok(Looked {
             refuted: false,
             steps: 0,
         });
     }
     let places = found.places(alloc, object)?;
-    first_look(alloc, declaration, calls, object.id, &places, most)
+    let few = u64::min(most, object.most);
+    first_look(alloc, declaration, calls, &object.ids, &places, few)
 }
 
-/// Searches the parts of the calls at these places on one object: it is not looked whether others are about it.
-fn first_look<'a>(
+/// Searches the parts of the calls at these places on some objects: it is not looked whether others are about these.
+fn first_look(
     alloc: Global,
     declaration: &Declaration,
-    calls: &[Call<'a>],
-    id: &'a str,
+    calls: &[Call],
+    ids: &[&str],
     places: &[usize],
     most: u64,
 ) -> Result<Looked, CheckFault>
@@ -274,37 +274,71 @@ fn first_look<'a>(
     let mut parts = Vec::with_capacity(alloc, places.len())?;
     'places: for place in places {
         if let Some(call) = calls.get(*place) {
-            if let Some(part) = plain_part(alloc, id, call)? {
+            if let Some(part) = plain_part(alloc, ids, call)? {
                 parts.push(part)?;
             }
         }
     }
-    search_parts(alloc, declaration, id, &parts, u64::min(most, MOST_STEPS))
+    search_parts(alloc, declaration, ids, &parts, u64::min(most, MOST_STEPS))
 }
 
-/// Searches the parts of calls on one object, those at these places, for an order. Where there is none, and no other call may change the object,
-/// it refutes the calls.
-fn refutes<'a>(
+/// Of objects that are found to refute the calls those that do so alone: each is left out without which the others do.
+fn fewest<'a>(
     alloc: Global,
     declaration: &Declaration,
-    calls: &[Call<'a>],
-    id: &'a str,
+    calls: &[Call],
+    ids: &[&'a str],
     places: &[usize],
-) -> Result<Option<Refuting<'a>>, CheckFault>
+) -> Result<Vec<&'a str>, CheckFault>
+    requires { AreDeclared (declaration_of declaration.now) }
+{
+    let mut few = Vec::from_slice(alloc, ids)?;
+    'ids: for id in ids {
+        let others = without(alloc, &few, id)?;
+        if !others.is_empty() {
+            let looked = first_look(alloc, declaration, calls, &others, places, MOST_STEPS)?;
+            if looked.refuted {
+                few = others;
+            }
+        }
+    }
+    Ok(few)
+}
+
+/// All of these but one.
+fn without<'a>(alloc: Global, ids: &[&'a str], left_out: &str) -> Result<Vec<&'a str>, AllocError> {
+    let mut others = Vec::with_capacity(alloc, ids.len())?;
+    for id in ids {
+        if *id != left_out {
+            others.push(*id)?;
+        }
+    }
+    Ok(others)
+}
+
+/// Searches the parts of calls on some objects, those at these places, for an order. Where there is none, and no other call may change one of
+/// these objects, they refute the calls.
+fn refutes(
+    alloc: Global,
+    declaration: &Declaration,
+    calls: &[Call],
+    ids: &[&str],
+    places: &[usize],
+) -> Result<Option<Refuting>, CheckFault>
     requires { AreDeclared (declaration_of declaration.now) }
     ensures { (marks : List MarkOf) → AreRecorded marks → AreCalls marks (map call_of calls.now)
         → IfOk result
         (λ refuting. IfSome refuting
-        (λ r. RefutesCalls (declaration_of declaration.now) (map call_of calls.now) r.id.now)) }
+        (λ r. RefutesCalls (declaration_of declaration.now) (map call_of calls.now) (map string_bytes r.objects.items))) }
 {
     check_laws();
-    let Some(parts) = parts_on(alloc, calls, id, places)? else {
+    let Some(parts) = parts_on(alloc, calls, ids, places)? else {
         return Ok(None);
     };
-    let looked = search_parts(alloc, declaration, id, &parts, MOST_STEPS)?;
+    let looked = search_parts(alloc, declaration, ids, &parts, MOST_STEPS)?;
     if looked.refuted {
         Ok(Some(Refuting {
-            id,
+            objects: copied(alloc, ids)?,
             steps: looked.steps,
         }))
     } else {
@@ -312,11 +346,11 @@ fn refutes<'a>(
     }
 }
 
-/// Searches parts on one object for an order, from what is declared of it.
+/// Searches parts on some objects for an order, from what is declared of these.
 fn search_parts<'c, 'a>(
     alloc: Global,
     declaration: &Declaration,
-    id: &str,
+    ids: &[&str],
     parts: &'c [CallPart<'c, 'a>],
     most: u64,
 ) -> Result<Looked, CheckFault>
@@ -324,7 +358,7 @@ fn search_parts<'c, 'a>(
     ensures { AreOrderly (map part_step parts.now)
         → IfOk result
         (λ looked. looked.refuted ≡ true
-        → HaveRun (declared_on id.now (declaration_of declaration.now)) (map part_step parts.now) → ⊥) }
+        → HaveRun (declared_on (is_among (map lent ids.now)) (declaration_of declaration.now)) (map part_step parts.now) → ⊥) }
 {
     check_laws();
     let own = candidates_of(alloc, parts)?;
@@ -334,7 +368,7 @@ fn search_parts<'c, 'a>(
             steps: 0,
         });
     }
-    let declared = declaration_on(alloc, declaration, id)?;
+    let declared = declaration_on(alloc, declaration, ids)?;
     let rules = rules_of_declaration(alloc, &declared)?;
     let mut ledger = open_ledger(alloc, &declared)?;
     let outcome = find_order(alloc, &mut ledger, &rules, &own, most, &mut Unwatched {})?;
@@ -353,17 +387,17 @@ fn has_decided(outcome: &Outcome, most: u64) -> bool
     outcome.order.is_none() && outcome.over.is_none() && outcome.steps < most
 }
 
-/// The parts of calls on one object: of those at these places, in their order. `None` where one of them has none, or another call may change
-/// the object.
+/// The parts of calls on some objects: of those at these places, in their order. `None` where one of them has none, or another call may change
+/// one of these objects.
 fn parts_on<'b, 'a>(
     alloc: Global,
     calls: &'b [Call<'a>],
-    id: &'a str,
+    ids: &[&str],
     places: &[usize],
 ) -> Result<Option<Vec<CallPart<'b, 'a>>>, AllocError>
     ensures { IfOk result
         (λ parts. IfSome parts
-        (λ own. AreCallParts id.now (map call_of calls.now) (map part_step own.items))) }
+        (λ own. AreCallParts (is_among (map lent ids.now)) (map call_of calls.now) (map part_step own.items))) }
 {
     let mut parts = Vec::with_capacity(alloc, places.len())?;
     let mut next = 0;
@@ -371,12 +405,12 @@ fn parts_on<'b, 'a>(
     'calls: while at < calls.len() {
         let call = &calls[at];
         if next < places.len() && places[next] == at {
-            let Some(part) = plain_part(alloc, id, call)? else {
+            let Some(part) = plain_part(alloc, ids, call)? else {
                 return Ok(None);
             };
             parts.push(part)?;
             next += 1;
-        } else if !is_elsewhere(id, call) {
+        } else if !is_elsewhere(ids, call) {
             return Ok(None);
         }
         at += 1;
@@ -384,17 +418,17 @@ fn parts_on<'b, 'a>(
     Ok(Some(parts))
 }
 
-/// The part of a plain call on one object.
+/// The part of a plain call on some objects.
 fn plain_part<'b, 'a>(
     alloc: Global,
-    id: &'a str,
+    ids: &[&str],
     call: &'b Call<'a>,
 ) -> Result<Option<CallPart<'b, 'a>>, AllocError>
     ensures { IfOk result
-        (λ part. IfSome part (λ own. IsCallPart id.now (call_of call.now) (Some (part_step own)))) }
+        (λ part. IfSome part (λ own. IsCallPart (is_among (map lent ids.now)) (call_of call.now) (Some (part_step own)))) }
 {
     match candidate_of(call) {
-        Some(own) => call_part(alloc, id, &own),
+        Some(own) => call_part(alloc, ids, &own),
         None => Ok(None),
     }
 }
@@ -402,12 +436,12 @@ fn plain_part<'b, 'a>(
 /// The same of one as a search takes it.
 fn call_part<'b, 'a>(
     alloc: Global,
-    id: &'a str,
+    ids: &[&str],
     call: &Candidate<'b, 'a>,
 ) -> Result<Option<CallPart<'b, 'a>>, AllocError>
-    ensures { IfOk result (λ part. IfSome part (λ own. IsPartOf id.now (candidate_step call.now) (part_step own))) }
+    ensures { IfOk result (λ part. IfSome part (λ own. IsPartOf (is_among (map lent ids.now)) (candidate_step call.now) (part_step own))) }
 {
-    let Some(part) = part_of(alloc, id, call.request, call.response)? else {
+    let Some(part) = part_of(alloc, ids, call.request, call.response)? else {
         return Ok(None);
     };
     Ok(Some(CallPart {
@@ -419,21 +453,21 @@ fn call_part<'b, 'a>(
     }))
 }
 
-/// Whether a call leaves the object as it is; one that isn't plain, whatever it is answered.
-fn is_elsewhere(id: &str, call: &Call) -> bool
-    ensures { result ≡ true → IsCallPart id.now (call_of call.now) None }
+/// Whether a call leaves these objects as they are; one that isn't plain, whatever it is answered.
+fn is_elsewhere(ids: &[&str], call: &Call) -> bool
+    ensures { result ≡ true → IsCallPart (is_among (map lent ids.now)) (call_of call.now) None }
 {
     match candidate_of(call) {
-        Some(own) => leaves_be(id, &own),
-        None => !may_touch(id, &call.request),
+        Some(own) => leaves_be(ids, &own),
+        None => !may_touch(ids, &call.request),
     }
 }
 
-/// Whether a plain call leaves the object as it is.
-fn leaves_be(id: &str, call: &Candidate) -> bool
-    ensures { result ≡ true → IsElsewhere id.now (candidate_step call.now) }
+/// Whether a plain call leaves these objects as they are.
+fn leaves_be(ids: &[&str], call: &Candidate) -> bool
+    ensures { result ≡ true → IsElsewhere (is_among (map lent ids.now)) (candidate_step call.now) }
 {
-    leave_be(id, call.request, call.response)
+    leave_be(ids, call.request, call.response)
 }
 
 /// The parts as calls that a search takes.
@@ -469,17 +503,17 @@ fn are_readable(calls: &[Candidate]) -> bool
     true
 }
 
-/// What is declared of one object, and of no other.
+/// What is declared of some objects, and of no other.
 fn declaration_on(
     alloc: Global,
     declaration: &Declaration,
-    id: &str,
+    ids: &[&str],
 ) -> Result<Declaration, AllocError>
-    ensures { IfOk result (λ own. declaration_of own ≡ declared_on id.now (declaration_of declaration.now)) }
+    ensures { IfOk result (λ own. declaration_of own ≡ declared_on (is_among (map lent ids.now)) (declaration_of declaration.now)) }
 {
     let mut entries = Vec::new(alloc);
     'entries: for entry in &declaration.entries {
-        if is_of(entry, id) {
+        if is_of(entry, ids) {
             let copy = copy_entry(alloc, entry)?;
             entries.push(copy)?;
         }
@@ -494,11 +528,22 @@ fn declaration_on(
     })
 }
 
-/// Whether this is the object's entry.
-fn is_of(entry: &Entry, id: &str) -> bool
-    ensures { result ≡ bytes_eq id.now (entry_of entry.now).id }
+/// Whether this is the entry of one of these objects.
+fn is_of(entry: &Entry, ids: &[&str]) -> bool
+    ensures { result ≡ is_among (map lent ids.now) (entry_of entry.now).id }
 {
-    id == entry.id.as_str()
+    is_among(ids, entry.id.as_str())
+}
+
+/// The same identifiers.
+fn copied(alloc: Global, ids: &[&str]) -> Result<Vec<String>, AllocError>
+    ensures { IfOk result (λ own. map string_bytes own.items ≡ map lent ids.now) }
+{
+    let mut own = Vec::with_capacity(alloc, ids.len())?;
+    'ids: for id in ids {
+        own.push(String::from_str(alloc, *id)?)?;
+    }
+    Ok(own)
 }
 
 /// An equal entry.

@@ -9,7 +9,7 @@ use crate::picking::pick_left;
 use crate::ranks::Ranks;
 use crate::remaining::Remaining;
 use crate::taken::TakenCalls;
-use crate::tried::Tried;
+use crate::tried::{Tried, Trying};
 use std::alloc::{AllocError, Global};
 
 /// The places of the calls, in the order in which a search takes them if each that it tries is possible, as far as some call may be next. No
@@ -23,12 +23,12 @@ pub fn forthright_order(alloc: Global, calls: &[Candidate]) -> Result<Vec<usize>
     let mut taken = TakenCalls::new(alloc, calls.len())?;
     let mut order = Vec::with_capacity(alloc, calls.len())?;
     'places: while order.len() < calls.len() {
-        let left = calls.len() - order.len();
-        let late = order.len() as u64 >= EARLY;
-        let none = Tried::none();
-        let Some(pick) = pick_left(
-            &remaining, calls, &wishes, &by_wish, &taken, none, left, late,
-        ) else {
+        let trying = Trying {
+            tried: Tried::none(),
+            left: calls.len() - order.len(),
+            late: order.len() as u64 >= EARLY,
+        };
+        let Some(pick) = pick_left(&remaining, calls, &wishes, &by_wish, &taken, trying) else {
             return Ok(order);
         };
         remaining.take(calls, pick.place);

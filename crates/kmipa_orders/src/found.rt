@@ -9,8 +9,8 @@ pub enum Found {
     Yes(Witness, u64),
     /// No witness, and how many calls were tried.
     GaveUp(u64),
-    /// No witness, how many calls were tried, and the identifier of an object that refutes them: no order explains the answers about it.
-    Refuted(u64, String),
+    /// No witness, how many calls were tried, and the identifiers of the objects that refute them: no order explains the answers about these.
+    Refuted(u64, Vec<String>),
     /// No witness, how many calls were tried, and the place of a call, from 0, whose answer is impossible over every inventory.
     Impossible(u64, usize),
     /// No witness: how many calls were tried until the seconds of the search were over, and how many these are.

@@ -18,7 +18,7 @@ use crate::ranks::Ranks;
 use crate::remaining::Remaining;
 use crate::settled::front_of;
 use crate::taken::TakenCalls;
-use crate::tried::{Pick, Tried, Visit};
+use crate::tried::{Pick, Tried, Trying, Visit};
 use crate::watch::Watch;
 use kmipa_batch::{CallRefusal, take_call};
 use kmipa_check::CheckFault;
@@ -171,17 +171,18 @@ impl Descent {
             → IsDue (map candidate_step calls.now) self.now result }
         ensures within { IfSome result (λ pick. pick.place < length calls.now) }
     {
-        let left = calls.len() - self.path.len();
-        let late = self.steps >= EARLY;
+        let trying = Trying {
+            tried: self.tried,
+            left: calls.len() - self.path.len(),
+            late: self.steps >= EARLY,
+        };
         pick_left(
             &self.remaining,
             calls,
             &self.wishes,
             &self.by_wish,
             &self.taken,
-            self.tried,
-            left,
-            late,
+            trying,
         )
     }
 

@@ -16,7 +16,7 @@ use crate::links::Links;
 use crate::ranks::Ranks;
 use crate::remaining::{Remaining, leads};
 use crate::taken::TakenCalls;
-use crate::tried::{Pick, Tried};
+use crate::tried::{Pick, Tried, Trying};
 
 /// Where more calls than these may be next, they are tried in the order of their begin marks.
 const WINDOW: usize = 64;
@@ -30,25 +30,23 @@ pub fn pick_left(
     wishes: &Ranks,
     by_wish: &Links,
     flags: &TakenCalls,
-    tried: Tried,
-    left: usize,
-    late: bool,
+    trying: Trying,
 ) -> Option<Pick>
     ensures picked { (taken : List ℕ) → AreBegun (map candidate_step calls.now)
         → AreRemaining (map candidate_step calls.now) taken remaining.now
-        → IsCursor (map candidate_step calls.now) taken tried.from
+        → IsCursor (map candidate_step calls.now) taken trying.tried.from
         → IsRanked (length (map candidate_step calls.now)) InAnyOrder wishes.now.order.items wishes.now.rank.items
         → WereLinked (length (map candidate_step calls.now)) wishes.now.rank.items taken by_wish.now.after.items
         by_wish.now.before.items → AreFlagged (length (map candidate_step calls.now)) taken flags.now
-        → IsPicked (map candidate_step calls.now) taken wishes.now.rank.items tried result }
+        → IsPicked (map candidate_step calls.now) taken wishes.now.rank.items trying.tried result }
     ensures within { IfSome result (λ pick. pick.place < length calls.now) }
 {
-    if late {
-        if left <= WINDOW {
-            return pick_wished(remaining, calls, wishes, by_wish, flags, tried);
+    if trying.late {
+        if trying.left <= WINDOW {
+            return pick_wished(remaining, calls, wishes, by_wish, flags, trying.tried);
         }
     }
-    pick(remaining, calls, wishes, tried, late)
+    pick(remaining, calls, wishes, trying.tried, trying.late)
 }
 
 /// The next call that was not tried and is wished most.

@@ -36,6 +36,14 @@ impl Tried {
     }
 }
 
+/// Where a call is picked: how far the tries at the place have come, how many calls are left there, and whether the search is late.
+#[derive(Clone, Copy, Drop)]
+pub struct Trying {
+    pub tried: Tried,
+    pub left: usize,
+    pub late: bool,
+}
+
 /// The call that is tried next, and how far the tries have come with it.
 #[derive(Clone, Copy, Drop)]
 pub struct Pick {

@@ -3,7 +3,7 @@ use Rattle.kmipa_orders.specs.Candidates.{candidate_step}
 use Rattle.kmipa_orders.specs.Links.{at}
 use Rattle.kmipa_orders.specs.Taken.{step_at}
 use Rattle.kmipa_orders.specs.Ranks.{parts}
-use Rattle.kmipa_orders.proofs.forced.are_apart.Given as goal
+use Rattle.kmipa_orders.proofs.forced.stamps_differ.Given as goal
 
 abbrev pub invariant-ranks : goal.invariant-ranks
 invariant-ranks l = record {
