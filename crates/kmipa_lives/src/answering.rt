@@ -1,7 +1,8 @@
 //! Answers that say that an item was done.
 
-use kmipa_attrs::ObjectType;
-use kmipa_msgs::{Answer, Ask, Asked, Changed, Payload, Registered, Status};
+use crate::fates::Aim;
+use kmipa_msgs::{Answer, Ask, Changed, Payload, Registered, Status};
+use kmipa_ops::New;
 
 /// The answer that says that an item that makes or changes the object with this identifier was done.
 pub fn answer_of<'p>(ask: &Ask<'p>, id: &'p str, status: Status) -> Answer<'p> {
@@ -10,20 +11,21 @@ pub fn answer_of<'p>(ask: &Ask<'p>, id: &'p str, status: Status) -> Answer<'p> {
         batch_id: ask.batch_id,
         status,
         reason: None,
-        payload: Some(payload_of(&ask.asked, id)),
+        payload: Some(match Aim::of(ask).newborn() {
+            Some(new) => born(new, id),
+            None => Payload::Change(Changed { id: Some(id) }),
+        }),
     }
 }
 
-fn payload_of<'p>(asked: &Asked<'_>, id: &'p str) -> Payload<'p> {
-    match asked {
-        Asked::Create(_) => Payload::Create(Registered {
-            object_type: Some(ObjectType::SymmetricKey.number()),
-            id,
-        }),
-        Asked::Register(register) => Payload::Register(Registered {
-            object_type: Some(register.object_type.number()),
-            id,
-        }),
-        _ => Payload::Change(Changed { id: Some(id) }),
+/// What is answered of a new object: it is registered where its bytes are brought, or else created.
+fn born<'p>(new: New<'_>, id: &'p str) -> Payload<'p> {
+    let registered = Registered {
+        object_type: Some(new.kind.number()),
+        id,
+    };
+    match new.block {
+        Some(_) => Payload::Register(registered),
+        None => Payload::Create(registered),
     }
 }

@@ -2,7 +2,7 @@
 
 ghost use Rattle.kmipa_store.specs.Choices.{IsSound};
 
-use crate::stories::{Recording, Story};
+use crate::stories::Story;
 use crate::trying::try_change;
 use kmipa_store::Ledger;
 use std::alloc::{AllocError, Global};
@@ -27,7 +27,6 @@ struct Changes {
 pub(crate) fn chains_of<L: Ledger>(
     alloc: Global,
     ledger: &mut L,
-    recording: &Recording<'_, '_>,
     story: &Story<'_>,
 ) -> Result<Vec<Vec<usize>>, AllocError>
     requires { IsSound (L.state ledger.old).now }
@@ -40,20 +39,14 @@ pub(crate) fn chains_of<L: Ledger>(
     }
     chains.push(Vec::new(alloc))?;
     'chains: for place in 0..most_chains(story.groups.len()) {
-        if place >= chains.len() {
+        let Some(chain) = chains.get(place) else {
             return whole_ones(alloc, &changes, &chains);
-        }
-        lengthen(
-            alloc,
-            ledger,
-            recording,
-            story,
-            &changes,
-            &mut chains,
-            place,
-        )?;
+        };
+        let chain = chain.clone()?;
+        let mut longer = longer_ones(alloc, ledger, story, &changes, &chain)?;
+        chains.append(&mut longer)?;
     }
-    if recording.is_open {
+    if story.recording.is_open {
         return whole_ones(alloc, &changes, &chains);
     }
     Ok(Vec::new(alloc))
@@ -105,43 +98,37 @@ fn whole_ones(
     Ok(whole)
 }
 
-/// Adds each chain that is one longer than the one at a place.
-fn lengthen<L: Ledger>(
+/// The chains that are one longer than this.
+fn longer_ones<L: Ledger>(
     alloc: Global,
     ledger: &mut L,
-    recording: &Recording<'_, '_>,
     story: &Story<'_>,
     changes: &Changes,
-    chains: &mut Vec<Vec<usize>>,
-    place: usize,
-) -> Result<(), AllocError>
+    chain: &[usize],
+) -> Result<Vec<Vec<usize>>, AllocError>
     requires { IsSound (L.state ledger.old).now }
     ensures { IsSound (L.state ledger.new).now }
 {
-    let Some(chain) = chains.get(place) else {
-        return Ok(());
-    };
-    let chain = chain.clone()?;
+    let mut longer = Vec::new(alloc);
     if chain.len() >= MOST_CHANGES {
-        return Ok(());
+        return Ok(longer);
     }
     'groups: for group in &changes.all {
-        if !may_follow(recording, story, changes, &chain, *group) {
+        if !may_follow(story, changes, chain, *group) {
             continue;
         }
-        let Some(longer) = longer_by(alloc, ledger, recording, story, &chain, *group)? else {
+        let Some(one) = longer_by(alloc, ledger, story, chain, *group)? else {
             continue;
         };
-        chains.push(longer)?;
+        longer.push(one)?;
     }
-    Ok(())
+    Ok(longer)
 }
 
 /// The chain with a group behind it, where it is possible there and changes the object.
 fn longer_by<L: Ledger>(
     alloc: Global,
     ledger: &mut L,
-    recording: &Recording<'_, '_>,
     story: &Story<'_>,
     chain: &[usize],
     group: usize,
@@ -149,7 +136,7 @@ fn longer_by<L: Ledger>(
     requires { IsSound (L.state ledger.old).now }
     ensures { IsSound (L.state ledger.new).now }
 {
-    if !try_change(alloc, ledger, recording, story, chain, group)? {
+    if !try_change(alloc, ledger, story, chain, group)? {
         return Ok(None);
     }
     let mut longer = Vec::from_slice(alloc, chain)?;
@@ -158,19 +145,12 @@ fn longer_by<L: Ledger>(
 }
 
 /// Whether a group may come next behind a chain, as far as times say.
-fn may_follow(
-    recording: &Recording<'_, '_>,
-    story: &Story<'_>,
-    changes: &Changes,
-    chain: &[usize],
-    group: usize,
-) -> bool {
-    let time = story.time(&recording.times, group);
+fn may_follow(story: &Story<'_>, changes: &Changes, chain: &[usize], group: usize) -> bool {
+    let time = story.time(group);
     let is_late = chain.iter().any(|other| story.is_of_call(*other, group)
-        || time.is_before(story.time(&recording.times, *other)));
+        || time.is_before(story.time(*other)));
     !is_late
         && !changes.needed.iter().any(|other| {
-            !chain.iter().any(|own| *own == *other)
-                && story.time(&recording.times, *other).is_before(time)
+            !chain.iter().any(|own| *own == *other) && story.time(*other).is_before(time)
         })
 }

@@ -1,6 +1,7 @@
 //! Undone items whose answers leave their payloads out.
 
-use kmipa_msgs::{Answer, Ask, Asked, Payload, is_wanted};
+use crate::fates::Aim;
+use kmipa_msgs::{Answer, Ask, Payload, is_wanted};
 use kmipa_record::Call;
 
 /// Whether an answer leaves a payload out that a witness has to give.
@@ -15,38 +16,17 @@ pub fn hidden_id<'b, 'a>(call: &'b Call<'a>, item: usize) -> Option<&'b str> {
     let asks = call.request.items.get(behind..).unwrap_or(&[]);
     let answers = response.items.get(behind..).unwrap_or(&[]);
     for (ask, answer) in asks.iter().zip(answers.iter()) {
-        if is_setting(&ask.asked) {
+        let aim = Aim::of(ask);
+        if aim.is_setting() {
             return None;
         }
-        if is_about_held(&ask.asked) {
+        if let Aim::Object(None, _) = aim {
             if let Some(id) = shown_id(&answer.payload) {
                 return Some(id);
             }
         }
     }
     None
-}
-
-/// Whether an item sets the ID Placeholder.
-pub(crate) fn is_setting(asked: &Asked<'_>) -> bool {
-    match asked {
-        Asked::Create(_) => true,
-        Asked::Register(_) => true,
-        Asked::Locate(_) => true,
-        _ => false,
-    }
-}
-
-/// Whether an item is about the object that the ID Placeholder holds.
-pub(crate) fn is_about_held(asked: &Asked<'_>) -> bool {
-    match asked {
-        Asked::Get(get) => get.id.is_none(),
-        Asked::GetAttributes(get) => get.id.is_none(),
-        Asked::Activate(activate) => activate.id.is_none(),
-        Asked::Revoke(revoke) => revoke.id.is_none(),
-        Asked::Destroy(destroy) => destroy.id.is_none(),
-        _ => false,
-    }
 }
 
 /// The identifier that an answer about one object shows.

@@ -1,25 +1,16 @@
 //! Which items of the calls are about which objects.
 
+use crate::fates::{Aim, Fate};
 use crate::hidden::{hidden_id, is_hidden};
 use crate::looks::Look;
 use crate::shown::Shown;
 use kmipa_attrs::{AttrSet, Filter, ObjectType};
 use kmipa_batch::is_refused_message;
-use kmipa_msgs::{Answer, Ask, Asked, Payload, Status};
+use kmipa_msgs::{Answer, Payload, Status};
+use kmipa_ops::New;
 use kmipa_record::{Call, Declaration};
 use std::alloc::{AllocError, Global};
 use std::collections::BTreeMap;
-
-/// How an item is about an object.
-#[derive(Clone, Copy, PartialEq, Eq, PartialOrd, Ord)]
-pub enum Part {
-    /// It means the object by its identifier, or brings it.
-    Means,
-    /// A Locate that lists it.
-    Lists,
-    /// A Locate that leaves it out.
-    LeavesOut,
-}
 
 /// An item that is about an object.
 #[derive(Clone, Copy, PartialEq, Eq, PartialOrd, Ord)]
@@ -30,7 +21,8 @@ pub struct Touch {
     pub call: usize,
     /// The place of the item in it.
     pub item: usize,
-    pub part: Part,
+    /// What it does to the object.
+    pub fate: Fate,
 }
 
 /// What is known of an object from the calls.
@@ -77,18 +69,6 @@ pub struct Items<'b> {
     pub declared: usize,
     /// So many objects are spoken of. Those behind them nothing shows.
     pub known: usize,
-}
-
-/// Whom an item is about.
-#[derive(Clone, Copy)]
-enum Aim<'b> {
-    /// The object of this identifier, or that of the ID Placeholder.
-    Object(Option<&'b str>),
-    /// A new object of this type and these attributes.
-    Newborn(ObjectType, &'b AttrSet),
-    /// The objects that fit a filter.
-    Fitting(&'b Filter),
-    Nothing,
 }
 
 impl<'b> Known<'b> {
@@ -188,22 +168,6 @@ impl<'b> Items<'b> {
         Ok(())
     }
 
-    /// Notes an item that means an object.
-    pub(crate) fn touch_object(
-        &mut self,
-        object: usize,
-        call: usize,
-        item: usize,
-    ) -> Result<(), AllocError> {
-        self.touches.push(Touch {
-            object,
-            call,
-            item,
-            part: Part::Means,
-        })?;
-        Ok(())
-    }
-
     fn take_call<'a>(&mut self, place: usize, call: &'b Call<'a>) -> Result<(), AllocError> {
         let Some(response) = &call.response else {
             return Ok(());
@@ -219,12 +183,13 @@ impl<'b> Items<'b> {
             .zip(response.items.iter())
             .enumerate()
         {
+            let aim = Aim::of(ask);
             held = if is_hidden(ask, answer) {
-                self.take_hidden(call, place, item, ask)?
+                self.take_hidden(call, place, item, aim)?
             } else {
-                self.take_item(place, item, ask, answer, held)?
+                self.take_item(place, item, aim, answer, held)?
             };
-            self.note_shown(call, ask, answer, held);
+            self.note_shown(call, aim, answer, held);
         }
         Ok(())
     }
@@ -235,12 +200,11 @@ impl<'b> Items<'b> {
         call: &'b Call<'a>,
         place: usize,
         item: usize,
-        ask: &'b Ask<'a>,
+        aim: Aim<'b>,
     ) -> Result<Option<&'b str>, AllocError> {
         let held = hidden_id(call, item);
-        if let (Aim::Newborn(kind, given), Some(id)) = (aim_of(&ask.asked), held) {
-            let object = self.touch(id, place, item, Part::Means)?;
-            self.note_birth(object, place, kind, given);
+        if let (Aim::Newborn(new), Some(id)) = (aim, held) {
+            self.take_birth(id, place, item, new)?;
         }
         Ok(held)
     }
@@ -249,7 +213,7 @@ impl<'b> Items<'b> {
     fn note_shown<'a>(
         &mut self,
         call: &'b Call<'a>,
-        ask: &'b Ask<'a>,
+        aim: Aim<'b>,
         answer: &'b Answer<'a>,
         held: Option<&'b str>,
     ) {
@@ -257,7 +221,7 @@ impl<'b> Items<'b> {
             return;
         }
         let end = call.end.unwrap_or(usize::MAX);
-        match (&answer.payload, aim_of(&ask.asked)) {
+        match (&answer.payload, aim) {
             (Some(Payload::Locate(located)), Aim::Fitting(filter)) => {
                 for id in &located.ids {
                     if let Some(shown) = self.shown(id) {
@@ -265,7 +229,7 @@ impl<'b> Items<'b> {
                     }
                 }
             }
-            (payload, Aim::Object(id)) => {
+            (payload, Aim::Object(id, _)) => {
                 if let Some(id) = id.or(held) {
                     let given = self.given(id);
                     if let Some(shown) = self.shown(id) {
@@ -301,23 +265,22 @@ impl<'b> Items<'b> {
         &mut self,
         call: usize,
         item: usize,
-        ask: &'b Ask<'a>,
+        aim: Aim<'b>,
         answer: &'b Answer<'a>,
         held: Option<&'b str>,
     ) -> Result<Option<&'b str>, AllocError> {
         let is_done = answer.status != Status::Failed;
-        match aim_of(&ask.asked) {
-            Aim::Object(id) => {
+        match aim {
+            Aim::Object(id, fate) => {
                 if let Some(id) = id.or(held) {
-                    let object = self.touch(id, call, item, Part::Means)?;
-                    self.note_end(object, call, &ask.asked, answer.status);
+                    let object = self.touch(id, call, item, fate)?;
+                    self.note_end(object, call, fate, answer.status);
                 }
                 Ok(held)
             }
-            Aim::Newborn(kind, given) => match brought(&answer.payload) {
+            Aim::Newborn(new) => match brought(&answer.payload) {
                 Some(id) if is_done => {
-                    let object = self.touch(id, call, item, Part::Means)?;
-                    self.note_birth(object, call, kind, given);
+                    self.take_birth(id, call, item, new)?;
                     Ok(Some(id))
                 }
                 _ => Ok(held),
@@ -326,7 +289,7 @@ impl<'b> Items<'b> {
                 Some(ids) if is_done => self.take_look(call, item, filter, ids),
                 _ => Ok(held),
             },
-            Aim::Nothing => Ok(held),
+            Aim::Nothing | Aim::Unread => Ok(held),
         }
     }
 
@@ -339,7 +302,7 @@ impl<'b> Items<'b> {
     ) -> Result<Option<&'b str>, AllocError> {
         let from = self.touches.len();
         for id in ids {
-            self.touch(id, call, item, Part::Lists)?;
+            self.touch(id, call, item, Fate::Listed)?;
         }
         self.looks.push(Look {
             call,
@@ -360,46 +323,40 @@ impl<'b> Items<'b> {
         id: &'b str,
         call: usize,
         item: usize,
-        part: Part,
+        fate: Fate,
     ) -> Result<usize, AllocError> {
         let object = self.number(id)?;
         self.touches.push(Touch {
             object,
             call,
             item,
-            part,
+            fate,
         })?;
         Ok(object)
     }
 
-    fn note_birth(&mut self, object: usize, call: usize, kind: ObjectType, given: &'b AttrSet) {
+    /// Notes an item that brings an object.
+    fn take_birth(
+        &mut self,
+        id: &'b str,
+        call: usize,
+        item: usize,
+        new: New<'b>,
+    ) -> Result<(), AllocError> {
+        let object = self.touch(id, call, item, Fate::Born)?;
         if let Some(known) = self.objects.get_mut(object) {
-            known.given = Some((kind, given));
+            known.given = Some((new.kind, new.attributes));
             known.born = Some(call);
         }
+        Ok(())
     }
 
-    fn note_end(&mut self, object: usize, call: usize, asked: &Asked, status: Status) {
-        if let (Asked::Destroy(_), Status::Success) = (asked, status) {
+    fn note_end(&mut self, object: usize, call: usize, fate: Fate, status: Status) {
+        if let (Fate::Destroyed, Status::Success) = (fate, status) {
             if let Some(known) = self.objects.get_mut(object) {
                 known.gone = Some(call);
             }
         }
-    }
-}
-
-fn aim_of<'b, 'a>(asked: &'b Asked<'a>) -> Aim<'b> {
-    match asked {
-        Asked::Create(create) => Aim::Newborn(ObjectType::SymmetricKey, &create.attributes),
-        Asked::Register(register) => Aim::Newborn(register.object_type, &register.attributes),
-        Asked::Locate(locate) => Aim::Fitting(&locate.filter),
-        Asked::Get(get) => Aim::Object(get.id),
-        Asked::GetAttributes(get) => Aim::Object(get.id),
-        Asked::Activate(activate) => Aim::Object(activate.id),
-        Asked::Revoke(revoke) => Aim::Object(revoke.id),
-        Asked::Destroy(destroy) => Aim::Object(destroy.id),
-        Asked::Idle(_) => Aim::Nothing,
-        Asked::Other(_) => Aim::Nothing,
     }
 }
 

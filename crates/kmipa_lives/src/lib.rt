@@ -8,6 +8,7 @@
 mod answering;
 mod chains;
 mod choices;
+mod fates;
 mod graph;
 mod hidden;
 mod items;

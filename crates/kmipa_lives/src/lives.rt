@@ -5,7 +5,7 @@ ghost use Rattle.kmipa_store.specs.Choices.{IsSound};
 
 use crate::chains::chains_of;
 use crate::choices::{Done, Wish};
-use crate::stories::{Recording, Story};
+use crate::stories::Story;
 use crate::times::Time;
 use crate::trying::{take_chain, try_reader};
 use kmipa_store::Ledger;
@@ -38,20 +38,28 @@ struct Span {
     is_change: bool,
 }
 
+/// The slots of each group beside a chain of changes.
+#[derive(Drop)]
+struct Slots {
+    /// Those into which it fits by its time.
+    spans: Vec<Span>,
+    /// Those into which it fits where it was tried: bit k is the slot behind k changes.
+    found: Vec<u64>,
+}
+
 /// The lives of the object; none where it has none, or too many.
 pub(crate) fn lives_of<L: Ledger>(
     alloc: Global,
     ledger: &mut L,
-    recording: &Recording<'_, '_>,
     story: &Story<'_>,
 ) -> Result<Vec<Course>, AllocError>
     requires { IsSound (L.state ledger.old).now }
     ensures { IsSound (L.state ledger.new).now }
 {
-    let mut lives = absences_of(alloc, recording, story)?;
-    let chains = chains_of(alloc, ledger, recording, story)?;
+    let mut lives = absences_of(alloc, story)?;
+    let chains = chains_of(alloc, ledger, story)?;
     'chains: for chain in &chains {
-        if let Some(life) = life_along(alloc, ledger, recording, story, chain)? {
+        if let Some(life) = life_along(alloc, ledger, story, chain)? {
             lives.push(life)?;
         }
     }
@@ -59,14 +67,10 @@ pub(crate) fn lives_of<L: Ledger>(
 }
 
 /// The ways in which an object isn't there that nothing shows.
-fn absences_of(
-    alloc: Global,
-    recording: &Recording<'_, '_>,
-    story: &Story<'_>,
-) -> Result<Vec<Course>, AllocError> {
+fn absences_of(alloc: Global, story: &Story<'_>) -> Result<Vec<Course>, AllocError> {
     let mut lives = Vec::new(alloc);
     if story.is_unseen {
-        for wish in &recording.switches.absences(alloc, recording, story)? {
+        for wish in &story.recording.switches.absences(alloc, story)? {
             let mut wishes = Vec::new(alloc);
             wishes.push(*wish)?;
             lives.push(Course {
@@ -84,7 +88,6 @@ fn absences_of(
 fn life_along<L: Ledger>(
     alloc: Global,
     ledger: &mut L,
-    recording: &Recording<'_, '_>,
     story: &Story<'_>,
     chain: &[usize],
 ) -> Result<Option<Course>, AllocError>
@@ -94,26 +97,19 @@ fn life_along<L: Ledger>(
     if story.is_unseen && chain.is_empty() {
         return Ok(None);
     }
-    let spans = spans_of(alloc, recording, story, chain)?;
-    let mut slots = vec![in alloc; 0u64; spans.len()]?;
+    let mut slots = Slots::of(alloc, story, chain)?;
     'slots: for slot in 0..chain.len() + 1 {
-        try_slot(
-            alloc, ledger, recording, story, chain, &spans, slot, &mut slots,
-        )?;
+        let front = chain.get(..slot).unwrap_or(&[]);
+        try_slot(alloc, ledger, story, front, &mut slots)?;
     }
-    life_of_slots(alloc, recording, story, chain, &spans, &slots)
+    life_of_slots(alloc, story, chain, &slots)
 }
 
 /// The slots of each group by its time.
-fn spans_of(
-    alloc: Global,
-    recording: &Recording<'_, '_>,
-    story: &Story<'_>,
-    chain: &[usize],
-) -> Result<Vec<Span>, AllocError> {
+fn spans_of(alloc: Global, story: &Story<'_>, chain: &[usize]) -> Result<Vec<Span>, AllocError> {
     let mut times = Vec::new(alloc);
     for group in chain {
-        times.push(story.time(&recording.times, *group))?;
+        times.push(story.time(*group))?;
     }
     let mut spans = Vec::with_capacity(alloc, story.groups.len())?;
     for (group, own) in story.groups.iter().enumerate() {
@@ -122,7 +118,7 @@ fn spans_of(
         } else {
             own.is_open || chain.iter().any(|other| *other == group)
         };
-        spans.push(span_of(story.time(&recording.times, group), &times, is_change))?;
+        spans.push(span_of(story.time(group), &times, is_change))?;
     }
     Ok(spans)
 }
@@ -145,16 +141,13 @@ fn span_of(time: Time, chain: &[Time], is_change: bool) -> Span {
     }
 }
 
-/// Notes the slot behind so many changes of each group that fits into it.
+/// Notes the slot behind these changes of each group that fits into it.
 fn try_slot<L: Ledger>(
     alloc: Global,
     ledger: &mut L,
-    recording: &Recording<'_, '_>,
     story: &Story<'_>,
-    chain: &[usize],
-    spans: &[Span],
-    slot: usize,
-    slots: &mut Vec<u64>,
+    front: &[usize],
+    slots: &mut Slots,
 ) -> Result<(), AllocError>
     requires { IsSound (L.state ledger.old).now }
     ensures { IsSound (L.state ledger.new).now }
@@ -162,8 +155,7 @@ fn try_slot<L: Ledger>(
     let Ok(mark) = ledger.mark() else {
         return Err(AllocError);
     };
-    let front = chain.get(..slot).unwrap_or(&[]);
-    let tried = try_readers(alloc, ledger, recording, story, front, spans, slots);
+    let tried = try_readers(alloc, ledger, story, front, slots);
     ledger.back(mark);
     tried
 }
@@ -171,41 +163,57 @@ fn try_slot<L: Ledger>(
 fn try_readers<L: Ledger>(
     alloc: Global,
     ledger: &mut L,
-    recording: &Recording<'_, '_>,
     story: &Story<'_>,
     front: &[usize],
-    spans: &[Span],
-    slots: &mut Vec<u64>,
+    slots: &mut Slots,
 ) -> Result<(), AllocError>
     requires { IsSound (L.state ledger.old).now }
     ensures { (L.state ledger.new).marks ≡ (L.state ledger.old).marks }
 {
-    if !take_chain(alloc, ledger, recording, story, front)? {
+    if !take_chain(alloc, ledger, story, front)? {
         return Ok(());
     }
     let slot = front.len();
-    'groups: for (group, span) in spans.iter().enumerate() {
-        if !span.has(slot) {
+    'groups: for group in 0..slots.spans.len() {
+        if !slots.may_have(group, slot) {
             continue;
         }
-        let fits = try_reader(alloc, ledger, recording, story, group)?;
-        note_slot(slots, group, slot, fits);
+        let fits = try_reader(alloc, ledger, story, group)?;
+        slots.note(group, slot, fits);
     }
     Ok(())
+}
+
+impl Slots {
+    /// Those by the times of the groups; none is tried yet.
+    fn of(alloc: Global, story: &Story<'_>, chain: &[usize]) -> Result<Slots, AllocError> {
+        let spans = spans_of(alloc, story, chain)?;
+        let found = vec![in alloc; 0u64; spans.len()]?;
+        Ok(Slots { spans, found })
+    }
+
+    /// Whether a group may be tried in a slot.
+    fn may_have(&self, group: usize, slot: usize) -> bool {
+        match self.spans.get(group) {
+            Some(span) => span.has(slot),
+            None => false,
+        }
+    }
+
+    /// Notes whether a group fits into a slot.
+    fn note(&mut self, group: usize, slot: usize, fits: bool) {
+        if let Some(own) = self.found.get_mut(group) {
+            if fits {
+                *own |= bit_of(slot);
+            }
+        }
+    }
 }
 
 impl Span {
     /// Whether the group may be tried in a slot.
     fn has(&self, slot: usize) -> bool {
         !self.is_change && self.low <= slot && slot <= self.high
-    }
-}
-
-fn note_slot(slots: &mut Vec<u64>, group: usize, slot: usize, fits: bool) {
-    if let Some(own) = slots.get_mut(group) {
-        if fits {
-            *own |= bit_of(slot);
-        }
     }
 }
 
@@ -217,33 +225,32 @@ pub(crate) fn bit_of(slot: usize) -> u64 {
 /// The life, unless a group fits in nowhere.
 fn life_of_slots(
     alloc: Global,
-    recording: &Recording<'_, '_>,
     story: &Story<'_>,
     chain: &[usize],
-    spans: &[Span],
-    slots: &[u64],
+    slots: &Slots,
 ) -> Result<Option<Course>, AllocError> {
     let everywhere = bit_of(chain.len() + 1).wrapping_sub(1);
     let mut readers = Vec::new(alloc);
     let mut wishes = Vec::new(alloc);
     let mut done = Vec::new(alloc);
-    for ((group, span), slots) in story.groups.iter().zip(spans.iter()).zip(slots.iter()) {
-        if span.is_change || *slots == everywhere {
+    let groups = story.groups.iter().zip(slots.spans.iter());
+    for ((group, span), found) in groups.zip(slots.found.iter()) {
+        if span.is_change || *found == everywhere {
             continue;
         }
-        let gate = recording.switches.gate_of(recording, story, *group);
+        let gate = story.recording.switches.gate_of(story, *group);
         match gate {
-            Some(gate) if *slots == 0 => wishes.push(gate.turned())?,
-            None if *slots == 0 => return Ok(None),
+            Some(gate) if *found == 0 => wishes.push(gate.turned())?,
+            None if *found == 0 => return Ok(None),
             _ => readers.push(Reader {
                 call: group.call,
-                slots: *slots,
+                slots: *found,
                 gate,
             })?,
         }
     }
-    let switches = &recording.switches;
-    switches.wish(recording, story, chain, &mut wishes, &mut done)?;
+    let switches = &story.recording.switches;
+    switches.wish(story, chain, &mut wishes, &mut done)?;
     Ok(Some(Course {
         chain: calls_of(alloc, story, chain)?,
         readers,

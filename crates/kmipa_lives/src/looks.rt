@@ -2,7 +2,8 @@
 //!
 //! What a Locate sees of an object is kept only where it may depend on the order of calls.
 
-use crate::items::{Guise, Items, Known, Part, Touch};
+use crate::fates::Fate;
+use crate::items::{Guise, Items, Known, Touch};
 use crate::spreads::Spreads;
 use crate::stories::Recording;
 use crate::times::{Time, time_at};
@@ -65,7 +66,7 @@ fn drop_settled(
     let mut open = Vec::with_capacity(alloc, items.touches.len())?;
     for touch in &items.touches {
         let time = time_at(times, touch.call);
-        if touch.part != Part::Lists || spreads.are_open(times, touch.object, time) {
+        if touch.fate != Fate::Listed || spreads.are_open(times, touch.object, time) {
             open.push(*touch)?;
         }
     }
@@ -178,7 +179,7 @@ fn leave_out_one(
             object,
             call: look.call,
             item: look.item,
-            part: Part::LeavesOut,
+            fate: Fate::LeftOut,
         })?;
     }
     Ok(())

@@ -4,10 +4,10 @@
 //! taken, some bearer of it was born before.
 
 use crate::choices::{Choice, Done, Wish, add_choice};
+use crate::fates::{Aim, Fate};
 use crate::items::{Items, brought};
-use crate::openings::made_by;
-use crate::stories::{Recording, is_destroy};
-use crate::switches::{Ending, Switches, new_node, open_ask};
+use crate::stories::Recording;
+use crate::switches::{Ending, Switches, new_node, open_aim};
 use crate::times::{Time, time_at};
 use kmipa_attrs::{AttrSet, Name};
 use kmipa_batch::is_refused_message;
@@ -120,12 +120,12 @@ impl<'b> Names<'b> {
         call: &'b Call<'a>,
     ) -> Result<(), AllocError> {
         for (item, ask) in call.request.items.iter().enumerate() {
-            if let (Some((_, given)), Some((how, object))) = (
-                made_by(ask),
+            if let (Aim::Newborn(new), Some((how, object))) = (
+                Aim::of(ask),
                 birth_at(items, call, item),
             ) {
                 let birth = Bearer::of(call.begin, how, (place, item), object);
-                self.push_bearers(given, birth)?;
+                self.push_bearers(new.attributes, birth)?;
             }
         }
         Ok(())
@@ -389,9 +389,8 @@ fn open_ends(
 ) -> Result<Vec<usize>, AllocError> {
     let mut objects = Vec::new(alloc);
     for touch in &items.touches {
-        match open_ask(calls, *touch) {
-            Some(ask) if is_destroy(&ask.asked) => objects.push(touch.object)?,
-            _ => {}
+        if touch.fate == Fate::Destroyed && open_aim(calls, *touch).is_some() {
+            objects.push(touch.object)?;
         }
     }
     objects.sort_unstable();
@@ -431,8 +430,10 @@ fn push_refused(
     }
     let asks = call.request.items.iter();
     for (item, (ask, answer)) in asks.zip(response.items.iter()).enumerate() {
-        if made_by(ask).is_some() && is_taken(rules, answer) {
-            refused.push((place, item))?;
+        if let Aim::Newborn(_) = Aim::of(ask) {
+            if is_taken(rules, answer) {
+                refused.push((place, item))?;
+            }
         }
     }
     Ok(())
@@ -460,9 +461,9 @@ fn names_at<'b, 'a>(calls: &'b [Call<'a>], call: usize, item: usize) -> &'b [Nam
 }
 
 fn given_names<'b, 'a>(ask: &'b Ask<'a>) -> &'b [Name] {
-    match made_by(ask) {
-        Some((_, given)) => given.names.as_slice(),
-        None => &[],
+    match Aim::of(ask) {
+        Aim::Newborn(new) => new.attributes.names.as_slice(),
+        _ => &[],
     }
 }
 

@@ -1,13 +1,12 @@
 //! Calls without an end mark, and the objects that they may be about.
 
-use crate::hidden::{is_about_held, is_setting};
-use crate::items::{Guise, Items, Part};
+use crate::fates::{Aim, Fate};
+use crate::items::{Guise, Items, Touch};
 use crate::matching::{Maker, Matching};
 use crate::shown::{Given, Shown};
 use crate::times::{Time, time_at};
-use kmipa_attrs::{AttrSet, ObjectType};
-use kmipa_msgs::{Ask, Asked, BatchOption};
-use kmipa_ops::{Effect, row_of};
+use kmipa_msgs::BatchOption;
+use kmipa_ops::New;
 use kmipa_record::Call;
 use std::alloc::{AllocError, Global};
 
@@ -54,35 +53,13 @@ fn add_named<'b, 'a>(
     call: &'b Call<'a>,
 ) -> Result<(), AllocError> {
     for (item, ask) in call.request.items.iter().enumerate() {
-        if let Some(id) = named_id(&ask.asked) {
-            if items.find(id).is_some() && (is_changer(&ask.asked) || is_bound(call)) {
-                items.touch(id, place, item, Part::Means)?;
+        if let Aim::Object(Some(id), fate) = Aim::of(ask) {
+            if items.find(id).is_some() && (fate.is_deed() || is_bound(call)) {
+                items.touch(id, place, item, fate)?;
             }
         }
     }
     Ok(())
-}
-
-/// The identifier of the object that an item is about, where it names it.
-pub(crate) fn named_id<'b, 'a>(asked: &'b Asked<'a>) -> Option<&'b str> {
-    match asked {
-        Asked::Get(get) => get.id,
-        Asked::GetAttributes(get) => get.id,
-        Asked::Activate(activate) => activate.id,
-        Asked::Revoke(revoke) => revoke.id,
-        Asked::Destroy(destroy) => destroy.id,
-        _ => None,
-    }
-}
-
-/// Whether an item changes an object.
-pub(crate) fn is_changer(asked: &Asked<'_>) -> bool {
-    match asked {
-        Asked::Activate(_) => true,
-        Asked::Revoke(_) => true,
-        Asked::Destroy(_) => true,
-        _ => false,
-    }
 }
 
 /// Notes of each object that answers show and nothing brings the items of open calls that may have brought it.
@@ -136,7 +113,7 @@ fn push_makers(
     stamp: i64,
 ) -> Result<(), AllocError> {
     for (item, ask) in call.request.items.iter().enumerate() {
-        if made_by(ask).is_some() {
+        if let Aim::Newborn(_) = Aim::of(ask) {
             makers.push(Maker {
                 call: place,
                 item,
@@ -148,12 +125,10 @@ fn push_makers(
     Ok(())
 }
 
-/// The type and the attributes of the object that an item makes.
-pub(crate) fn made_by<'b, 'a>(ask: &'b Ask<'a>) -> Option<(ObjectType, &'b AttrSet)> {
-    match row_of(&ask.asked).effect {
-        Effect::Makes(new) => Some((new.kind, new.attributes)),
-        _ => None,
-    }
+/// What a maker makes.
+fn newborn_of<'b, 'a>(calls: &'b [Call<'a>], maker: Maker) -> Option<New<'b>> {
+    let call = calls.get(maker.call)?;
+    Aim::of(call.request.items.get(maker.item)?).newborn()
 }
 
 /// The objects that answers show and nothing brings, by the ends of the calls that show them first.
@@ -194,17 +169,14 @@ fn fitting_makers(
 }
 
 fn may_bring(calls: &[Call<'_>], maker: Maker, shown: &Shown<'_>) -> bool {
-    let Some(call) = calls.get(maker.call) else {
+    let Some(new) = newborn_of(calls, maker) else {
         return false;
     };
-    let Some(ask) = call.request.items.get(maker.item) else {
-        return false;
-    };
-    let is_late = match shown.date_left(&ask.asked, Given::nothing()) {
+    let is_late = match shown.date_left(Fate::Born, Given::nothing()) {
         Some(date) => date < maker.stamp,
         None => false,
     };
-    !is_late && shown.may_be_of(ask)
+    !is_late && shown.may_be_of(new)
 }
 
 /// The object may have the attributes that a maker gives.
@@ -214,17 +186,12 @@ fn add_guise<'b, 'a>(
     maker: Maker,
     object: usize,
 ) -> Result<(), AllocError> {
-    let Some(call) = calls.get(maker.call) else {
-        return Ok(());
-    };
-    if let Some(ask) = call.request.items.get(maker.item) {
-        if let Some((kind, given)) = made_by(ask) {
-            items.note_guise(Guise {
-                object,
-                kind,
-                given,
-            })?;
-        }
+    if let Some(new) = newborn_of(calls, maker) {
+        items.note_guise(Guise {
+            object,
+            kind: new.kind,
+            given: new.attributes,
+        })?;
     }
     Ok(())
 }
@@ -239,14 +206,27 @@ fn add_maker<'b, 'a>(
     let Some(call) = calls.get(maker.call) else {
         return Ok(());
     };
-    items.touch_object(object, maker.call, maker.item)?;
+    let birth = Touch {
+        object,
+        call: maker.call,
+        item: maker.item,
+        fate: Fate::Born,
+    };
+    items.touches.push(birth)?;
     for (item, ask) in call.request.items.iter().enumerate() {
         if item > maker.item {
-            if is_setting(&ask.asked) {
+            let aim = Aim::of(ask);
+            if aim.is_setting() {
                 break;
             }
-            if is_about_held(&ask.asked) && (is_changer(&ask.asked) || is_bound(call)) {
-                items.touch_object(object, maker.call, item)?;
+            if let Aim::Object(None, fate) = aim {
+                if fate.is_deed() || is_bound(call) {
+                    items.touches.push(Touch {
+                        item,
+                        fate,
+                        ..birth
+                    })?;
+                }
             }
         }
     }
@@ -265,7 +245,7 @@ fn add_unseen<'b, 'a>(
     };
     let is_hoped = is_bound(call) && has_other_deed(call, maker.item);
     let count = items.objects.len().saturating_sub(items.known);
-    if !is_hoped && (count >= MOST_UNSEEN || !is_wanted(call, maker.item, wanted)) {
+    if !is_hoped && (count >= MOST_UNSEEN || !is_wanted(calls, maker, wanted)) {
         return Ok(());
     }
     let object = items.add_unseen()?;
@@ -273,15 +253,12 @@ fn add_unseen<'b, 'a>(
     add_maker(items, calls, maker, object)
 }
 
-/// Whether an item gives what it makes one of these names, which ascend.
-fn is_wanted(call: &Call<'_>, item: usize, wanted: &[(&str, u32)]) -> bool {
-    let Some(ask) = call.request.items.get(item) else {
+/// Whether a maker gives what it makes one of these names, which ascend.
+fn is_wanted(calls: &[Call<'_>], maker: Maker, wanted: &[(&str, u32)]) -> bool {
+    let Some(new) = newborn_of(calls, maker) else {
         return false;
     };
-    let Some((_, given)) = made_by(ask) else {
-        return false;
-    };
-    given.names.as_slice().iter().any(|name| {
+    new.attributes.names.as_slice().iter().any(|name| {
         let own = (name.value.as_str(), name.kind);
         let place = wanted.partition_point(|other| *other < own);
         wanted.get(place).copied() == Some(own)
@@ -292,6 +269,10 @@ fn is_wanted(call: &Call<'_>, item: usize, wanted: &[(&str, u32)]) -> bool {
 fn has_other_deed(call: &Call<'_>, maker: usize) -> bool {
     call.request.items.iter().enumerate().any(|(item, ask)| {
         item != maker
-            && (made_by(ask).is_some() || is_changer(&ask.asked) && named_id(&ask.asked).is_some())
+            && match Aim::of(ask) {
+                Aim::Newborn(_) => true,
+                Aim::Object(id, fate) => id.is_some() && fate.is_deed(),
+                _ => false,
+            }
     })
 }

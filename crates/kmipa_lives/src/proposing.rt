@@ -90,12 +90,12 @@ pub(crate) fn mending_of<'x, 'a, L: Ledger>(
 }
 
 /// The choices that the lives of all objects leave; none where an object has no life, or too many.
-fn choices_of<L: Ledger>(
+fn choices_of<'s, L: Ledger>(
     alloc: Global,
     ledger: &mut L,
-    recording: &Recording<'_, '_>,
-    objects: &[Known<'_>],
-    touches: &[Touch],
+    recording: &'s Recording<'s, 's>,
+    objects: &[Known<'s>],
+    touches: &'s [Touch],
 ) -> Result<Option<Vec<Choice>>, AllocError>
     requires { IsSound (L.state ledger.old).now }
 {
@@ -112,7 +112,7 @@ fn choices_of<L: Ledger>(
             own,
             recording.switches.is_unseen(object),
         )?;
-        let courses = lives_of(alloc, ledger, recording, &story)?;
+        let courses = lives_of(alloc, ledger, &story)?;
         tries = tries.saturating_add(own.len().saturating_mul(courses.len()));
         if courses.is_empty() || tries > MOST_TRIES {
             return Ok(None);

@@ -1,8 +1,9 @@
 //! What answers show of an object.
 
+use crate::fates::Fate;
 use kmipa_attrs::{AttrSet, Filter, Name, ObjectType};
-use kmipa_msgs::{Ask, Asked, Got, Payload};
-use kmipa_ops::{Effect, row_of};
+use kmipa_msgs::{Got, Payload};
+use kmipa_ops::New;
 
 /// The dates that an object was given at its birth.
 #[derive(Clone, Copy)]
@@ -144,30 +145,22 @@ impl<'b> Shown<'b> {
     }
 
     /// The date that the success of an item about it has left, as far as one is shown that its object wasn't given at birth.
-    pub(crate) fn date_left(&self, asked: &Asked<'_>, own: Given) -> Option<i64> {
-        match asked {
-            Asked::Create(_) => self.initial,
-            Asked::Register(_) => self.initial,
-            Asked::Activate(_) => self.activation.besides(own.activation),
-            Asked::Revoke(revoke) => match revoke.code {
-                2 | 3 => self.compromise,
-                _ => self.deactivation.besides(own.deactivation),
-            },
-            Asked::Destroy(_) => self.destroy,
+    pub(crate) fn date_left(&self, fate: Fate, own: Given) -> Option<i64> {
+        match fate {
+            Fate::Born => self.initial,
+            Fate::Activated => self.activation.besides(own.activation),
+            Fate::Deactivated => self.deactivation.besides(own.deactivation),
+            Fate::Compromised => self.compromise,
+            Fate::Destroyed => self.destroy,
             _ => None,
         }
     }
 
-    /// Whether an item can have brought it.
-    pub(crate) fn may_be_of(&self, ask: &Ask<'_>) -> bool {
-        match row_of(&ask.asked).effect {
-            Effect::Makes(new) => {
-                self.has_bytes(new.kind, new.material())
-                    && self.is_named(new.attributes)
-                    && self.is_alike(new.kind, new.attributes)
-            }
-            _ => false,
-        }
+    /// Whether it can be this new object.
+    pub(crate) fn may_be_of(&self, new: New<'_>) -> bool {
+        self.has_bytes(new.kind, new.material())
+            && self.is_named(new.attributes)
+            && self.is_alike(new.kind, new.attributes)
     }
 
     /// Whether no Get shows another type, or other bytes.

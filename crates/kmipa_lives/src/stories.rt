@@ -1,12 +1,12 @@
 //! What the calls say of one object.
 
-use crate::hidden::is_about_held;
-use crate::items::{Known, Part, Touch};
-use crate::openings::{is_bound, is_changer, made_by};
+use crate::fates::{Aim, Fate};
+use crate::items::{Known, Touch};
+use crate::openings::is_bound;
 use crate::shown::{Given, Shown};
 use crate::switches::Switches;
 use crate::times::{Time, time_at};
-use kmipa_msgs::{Ask, Asked, BatchOption, Rules, Status};
+use kmipa_msgs::{BatchOption, Rules, Status};
 use kmipa_record::Call;
 use std::alloc::{AllocError, Global};
 
@@ -59,10 +59,10 @@ impl Period {
     }
 
     /// Those that the Activation Date of an object leaves to the first Activate or Revoke of it: a Revoke comes since that date, and an Activate before it.
-    pub(crate) fn of_first(given: Given, ask: &Ask<'_>) -> Period {
-        let (since, until) = match &ask.asked {
-            Asked::Revoke(revoke) if !is_compromise(revoke.code) => (given.activation, None),
-            Asked::Activate(_) => (None, given.activation),
+    pub(crate) fn of_first(given: Given, fate: Fate) -> Period {
+        let (since, until) = match fate {
+            Fate::Activated => (None, given.activation),
+            Fate::Deactivated => (given.activation, None),
             _ => (None, None),
         };
         Period { since, until }
@@ -72,6 +72,7 @@ impl Period {
 /// What the calls say of one object: its items, call by call.
 #[derive(Drop)]
 pub struct Story<'s> {
+    pub recording: &'s Recording<'s, 's>,
     pub id: &'s str,
     pub shown: Shown<'s>,
     /// The dates that it was given, where its birth or the declaration says them.
@@ -86,20 +87,21 @@ impl<'s> Story<'s> {
     /// That of these touches, which stand call by call.
     pub(crate) fn of(
         alloc: Global,
-        recording: &Recording<'_, '_>,
+        recording: &'s Recording<'s, 's>,
         known: &Known<'s>,
         touches: &'s [Touch],
         is_unseen: bool,
     ) -> Result<Story<'s>, AllocError> {
         let mut groups: Vec<Group> = Vec::new(alloc);
         for (place, touch) in touches.iter().enumerate() {
-            let effect = effect_of(recording, *touch);
+            let own = Group::of(recording, *touch, place);
             match groups.last_mut() {
-                Some(group) if group.call == touch.call => group.take(place, effect),
-                _ => groups.push(Group::of(recording, *touch, place, effect))?,
+                Some(group) if group.call == touch.call => group.take(own),
+                _ => groups.push(own)?,
             }
         }
         Ok(Story {
+            recording,
             id: known.id,
             shown: known.shown,
             given: match known.given {
@@ -130,8 +132,8 @@ impl<'s> Story<'s> {
 
     /// Whether a chain says of an item at a place that it doesn't do that nothing does: it changes the object by its name wherever it is
     /// possible, or the chain does items ahead of it.
-    pub(crate) fn is_settled(&self, chain: &[usize], place: usize, ask: &Ask<'_>) -> bool {
-        is_changer(&ask.asked) && !is_idle_at_times(&ask.asked) && !is_about_held(&ask.asked)
+    pub(crate) fn is_settled(&self, chain: &[usize], place: usize, aim: Aim<'_>) -> bool {
+        aim.is_sure()
             || chain.iter().any(|group| match self.groups.get(*group) {
                 Some(group) => group.from <= place && place < group.end,
                 None => false,
@@ -140,25 +142,19 @@ impl<'s> Story<'s> {
 
     /// The date that the success of an item leaves behind a chain, as far as one is shown that its object wasn't given at birth: a Destroy also
     /// deactivates what no Revoke has.
-    pub(crate) fn date_left(
-        &self,
-        recording: &Recording<'_, '_>,
-        chain: &[usize],
-        ask: &Ask<'_>,
-        own: Given,
-    ) -> Option<i64> {
-        let date = self.shown.date_left(&ask.asked, own);
-        if date.is_some() || !is_destroy(&ask.asked) || self.is_revoked(recording, chain) {
+    pub(crate) fn date_left(&self, chain: &[usize], fate: Fate, own: Given) -> Option<i64> {
+        let date = self.shown.date_left(fate, own);
+        if date.is_some() || fate != Fate::Destroyed || self.is_deactivated(chain) {
             return date;
         }
         self.shown.deactivation.besides(own.deactivation)
     }
 
     /// The dates that the object was given by the item of a chain that makes it, the first of its group, or else as is known anyway.
-    pub(crate) fn given_along(&self, recording: &Recording<'_, '_>, chain: &[usize]) -> Given {
+    pub(crate) fn given_along(&self, chain: &[usize]) -> Given {
         for group in chain {
             if let Some(first) = self.items(*group).first() {
-                if let Some(given) = given_by(recording, *first) {
+                if let Some(given) = given_by(self.recording, *first) {
                     return given;
                 }
             }
@@ -167,15 +163,11 @@ impl<'s> Story<'s> {
     }
 
     /// The open call and its item by which a chain makes the object; or the greatest number and that of the object.
-    pub(crate) fn brought_along(
-        &self,
-        recording: &Recording<'_, '_>,
-        chain: &[usize],
-    ) -> (usize, usize) {
+    pub(crate) fn brought_along(&self, chain: &[usize]) -> (usize, usize) {
         for number in chain {
             if let Some(group) = self.groups.get(*number) {
                 if let Some(first) = self.touches.get(group.from) {
-                    if group.is_open && is_maker(recording, self.touches, group.from) {
+                    if group.is_open && first.fate == Fate::Born {
                         return (first.call, first.item);
                     }
                 }
@@ -188,14 +180,12 @@ impl<'s> Story<'s> {
     }
 
     /// The call of a chain that destroys the object.
-    pub(crate) fn gone_along(
-        &self,
-        recording: &Recording<'_, '_>,
-        chain: &[usize],
-    ) -> Option<usize> {
+    pub(crate) fn gone_along(&self, chain: &[usize]) -> Option<usize> {
         for number in chain {
             let items = self.items(*number);
-            if items.iter().any(|touch| is_end(recording, *touch)) {
+            let is_end = items.iter().any(|touch| touch.fate == Fate::Destroyed
+                && may_change(self.recording, *touch));
+            if is_end {
                 return Some(items.first()?.call);
             }
         }
@@ -203,18 +193,14 @@ impl<'s> Story<'s> {
     }
 
     /// The place of the first Activate or Revoke of a chain.
-    pub(crate) fn first_handling(
-        &self,
-        recording: &Recording<'_, '_>,
-        chain: &[usize],
-    ) -> Option<usize> {
+    pub(crate) fn first_handling(&self, chain: &[usize]) -> Option<usize> {
         for number in chain {
             let Some(group) = self.groups.get(*number) else {
                 continue;
             };
             for place in group.from..group.to {
                 match self.touches.get(place) {
-                    Some(touch) if is_handling(recording, *touch) => return Some(place),
+                    Some(touch) if touch.fate.is_handling() => return Some(place),
                     _ => {}
                 }
             }
@@ -223,11 +209,11 @@ impl<'s> Story<'s> {
     }
 
     /// Whether an item of a chain may deactivate by a Revoke.
-    fn is_revoked(&self, recording: &Recording<'_, '_>, chain: &[usize]) -> bool {
+    fn is_deactivated(&self, chain: &[usize]) -> bool {
         chain.iter().any(|group| {
             self.items(*group)
                 .iter()
-                .any(|touch| is_deactivating(recording, *touch))
+                .any(|touch| touch.fate == Fate::Deactivated)
         })
     }
 
@@ -240,45 +226,41 @@ impl<'s> Story<'s> {
     }
 
     /// When the call of a group was.
-    pub(crate) fn time(&self, times: &[Time], group: usize) -> Time {
-        match self.groups.get(group) {
-            Some(group) => time_at(times, group.call),
-            None => time_at(times, usize::MAX),
-        }
+    pub(crate) fn time(&self, group: usize) -> Time {
+        let call = match self.groups.get(group) {
+            Some(group) => group.call,
+            None => usize::MAX,
+        };
+        time_at(&self.recording.times, call)
     }
 }
 
-/// What an item may do to the object.
-#[derive(Clone, Copy, PartialEq, Eq)]
-enum Effect {
-    None,
-    Maybe,
-    Sure,
-}
-
 impl Group {
-    fn of(recording: &Recording<'_, '_>, touch: Touch, place: usize, effect: Effect) -> Group {
+    /// That of one item, at this place.
+    fn of(recording: &Recording<'_, '_>, touch: Touch, place: usize) -> Group {
         let is_open = match recording.calls.get(touch.call) {
             Some(call) => call.end.is_none(),
             None => false,
         };
+        let is_change = may_change(recording, touch);
         Group {
             call: touch.call,
             from: place,
             to: place.saturating_add(1),
-            is_change: effect != Effect::None,
-            is_needed: effect == Effect::Sure,
+            is_change,
+            is_needed: is_change && !is_open && touch.fate.is_sure(),
             is_open,
             is_asked: false,
             end: place.saturating_add(1),
         }
     }
 
-    fn take(&mut self, place: usize, effect: Effect) {
-        self.to = place.saturating_add(1);
-        self.end = self.to;
-        self.is_change = self.is_change || effect != Effect::None;
-        self.is_needed = self.is_needed || effect == Effect::Sure;
+    /// Takes the next item of its call.
+    fn take(&mut self, next: Group) {
+        self.to = next.to;
+        self.end = next.end;
+        self.is_change = self.is_change || next.is_change;
+        self.is_needed = self.is_needed || next.is_needed;
     }
 }
 
@@ -309,7 +291,7 @@ fn add_segments(
 ) -> Result<(), AllocError> {
     let mut from = group.from;
     for place in group.from.saturating_add(1)..group.to.saturating_add(1) {
-        if place == group.to || is_maker(recording, touches, place) {
+        if place == group.to || is_birth(touches, place) {
             let segment = Group {
                 from,
                 to: place,
@@ -336,7 +318,7 @@ fn add_parts(
         return Ok(());
     };
     if !is_bound(call) {
-        return add_runs(recording, touches, segment, all);
+        return add_runs(touches, segment, all);
     }
     let first = first_change(recording, touches, segment, false);
     let sure = first_change(recording, touches, segment, true);
@@ -364,14 +346,9 @@ fn add_parts(
 const MOST_COMBINED: usize = 8;
 
 /// Adds each run of items that hang on nothing but the one that makes the object.
-fn add_runs(
-    recording: &Recording<'_, '_>,
-    touches: &[Touch],
-    segment: Group,
-    all: &mut Vec<Group>,
-) -> Result<(), AllocError> {
+fn add_runs(touches: &[Touch], segment: Group, all: &mut Vec<Group>) -> Result<(), AllocError> {
     let count = segment.end.saturating_sub(segment.from);
-    let last = if is_maker(recording, touches, segment.from) || count > MOST_COMBINED {
+    let last = if is_birth(touches, segment.from) || count > MOST_COMBINED {
         segment.from.saturating_add(1)
     } else {
         segment.end
@@ -397,7 +374,7 @@ fn first_change(
 ) -> usize {
     for place in segment.from..segment.end {
         if let Some(touch) = touches.get(place) {
-            if may_change(recording, *touch) && !(is_sure && is_revoke(recording, *touch)) {
+            if may_change(recording, *touch) && (touch.fate.is_sure() || !is_sure) {
                 return place;
             }
         }
@@ -405,132 +382,38 @@ fn first_change(
     segment.end
 }
 
-/// What an item asks for.
-fn asked_by<'b, 'a>(recording: &Recording<'b, 'a>, touch: Touch) -> Option<&'b Asked<'a>> {
-    let call = recording.calls.get(touch.call)?;
-    let ask = call.request.items.get(touch.item)?;
-    Some(&ask.asked)
-}
-
-/// Whether an item is a Revoke, which can leave an object as it is.
-fn is_revoke(recording: &Recording<'_, '_>, touch: Touch) -> bool {
-    match asked_by(recording, touch) {
-        Some(asked) => is_idle_at_times(asked),
-        None => false,
-    }
-}
-
-/// Whether an item is a Revoke for a reason other than a compromise.
-fn is_deactivating(recording: &Recording<'_, '_>, touch: Touch) -> bool {
-    match asked_by(recording, touch) {
-        Some(Asked::Revoke(revoke)) => !is_compromise(revoke.code),
-        _ => false,
-    }
-}
-
-/// Whether a Revocation Reason Code is one of the compromises.
-pub(crate) fn is_compromise(code: u32) -> bool {
-    code == 2 || code == 3
-}
-
-/// Whether an item is an Activate or a Revoke.
-fn is_handling(recording: &Recording<'_, '_>, touch: Touch) -> bool {
-    match asked_by(recording, touch) {
-        Some(Asked::Activate(_)) => true,
-        Some(Asked::Revoke(_)) => true,
-        _ => false,
-    }
-}
-
 /// The dates that an object was given by the item that makes it.
 fn given_by(recording: &Recording<'_, '_>, touch: Touch) -> Option<Given> {
     let call = recording.calls.get(touch.call)?;
-    let ask = call.request.items.get(touch.item)?;
-    match made_by(ask) {
-        Some((_, given)) => Some(Given::of(given)),
-        None => None,
-    }
-}
-
-/// Whether an item destroys the object, if it is done.
-fn is_end(recording: &Recording<'_, '_>, touch: Touch) -> bool {
-    match asked_by(recording, touch) {
-        Some(asked) => is_destroy(asked) && may_change(recording, touch),
-        None => false,
-    }
-}
-
-/// Whether an operation is a Destroy.
-pub(crate) fn is_destroy(asked: &Asked<'_>) -> bool {
-    match asked {
-        Asked::Destroy(_) => true,
-        _ => false,
-    }
-}
-
-/// Whether an operation can be done without changing the object.
-fn is_idle_at_times(asked: &Asked<'_>) -> bool {
-    match asked {
-        Asked::Revoke(_) => true,
-        _ => false,
-    }
+    let new = Aim::of(call.request.items.get(touch.item)?).newborn()?;
+    Some(Given::of(new.attributes))
 }
 
 /// Whether the item at a place makes the object.
-fn is_maker(recording: &Recording<'_, '_>, touches: &[Touch], place: usize) -> bool {
+fn is_birth(touches: &[Touch], place: usize) -> bool {
     match touches.get(place) {
-        Some(touch) => match recording.calls.get(touch.call) {
-            Some(call) => match call.request.items.get(touch.item) {
-                Some(ask) => made_by(ask).is_some(),
-                None => false,
-            },
-            None => false,
-        },
+        Some(touch) => touch.fate == Fate::Born,
         None => false,
     }
 }
 
-/// Whether an item may change the object that it is about.
+/// Whether an item may change the object that it is about: it is done, or its call is open.
 pub(crate) fn may_change(recording: &Recording<'_, '_>, touch: Touch) -> bool {
-    effect_of(recording, touch) != Effect::None
+    touch.fate.is_deed()
+        && !time_at(&recording.times, touch.call).is_undone
+        && match recording.calls.get(touch.call) {
+            Some(call) => call.response.is_none() || has_status(call, touch.item, Status::Success),
+            None => false,
+        }
 }
 
-fn effect_of(recording: &Recording<'_, '_>, touch: Touch) -> Effect {
-    if touch.part != Part::Means || time_at(&recording.times, touch.call).is_undone {
-        return Effect::None;
-    }
-    match recording.calls.get(touch.call) {
-        Some(call) => effect_at(call, touch.item),
-        None => Effect::None,
-    }
-}
-
-fn effect_at(call: &Call<'_>, item: usize) -> Effect {
+/// Whether an answer says that the item at a place has this status.
+pub(crate) fn has_status(call: &Call<'_>, item: usize, status: Status) -> bool {
     let Some(response) = &call.response else {
-        return open_effect(call, item);
+        return false;
     };
-    match (call.request.items.get(item), response.items.get(item)) {
-        (Some(ask), Some(answer)) if answer.status == Status::Success => done(&ask.asked),
-        _ => Effect::None,
-    }
-}
-
-/// What an item of an open call may do.
-fn open_effect(call: &Call<'_>, item: usize) -> Effect {
-    match call.request.items.get(item) {
-        Some(ask) if made_by(ask).is_some() || is_changer(&ask.asked) => Effect::Maybe,
-        _ => Effect::None,
-    }
-}
-
-/// What an operation that is done may do.
-fn done(asked: &Asked<'_>) -> Effect {
-    match asked {
-        Asked::Create(_) => Effect::Sure,
-        Asked::Register(_) => Effect::Sure,
-        Asked::Activate(_) => Effect::Sure,
-        Asked::Destroy(_) => Effect::Sure,
-        Asked::Revoke(_) => Effect::Maybe,
-        _ => Effect::None,
+    match response.items.get(item) {
+        Some(answer) => answer.status == status,
+        None => false,
     }
 }

@@ -1,15 +1,14 @@
 //! What open calls do, as nodes and edges of the graph: where two lives want otherwise, their edges contradict.
 
 use crate::choices::{Done, Wish};
-use crate::hidden::{is_about_held, is_setting};
-use crate::items::{Items, Part, Touch};
-use crate::openings::{is_bound, is_changer, made_by, named_id};
+use crate::fates::{Aim, Fate};
+use crate::items::{Items, Touch};
+use crate::openings::is_bound;
 use crate::shown::{Dates, Given};
-use crate::stories::{Group, Period, Recording, Story};
+use crate::stories::{Group, Period, Story};
 use crate::times::Time;
 use kmipa_attrs::AttrSet;
-use kmipa_msgs::{Ask, Asked, BatchOption};
-use kmipa_ops::{Effect, row_of};
+use kmipa_msgs::BatchOption;
 use kmipa_record::Call;
 use std::alloc::{AllocError, Global};
 
@@ -88,11 +87,11 @@ impl Switches {
         switches.unseen = items.known;
         let mut dates = Vec::new(alloc);
         for touch in &items.touches {
-            if let Some(ask) = open_ask(calls, *touch) {
-                if made_by(ask).is_some() {
+            if let Some(aim) = open_aim(calls, *touch) {
+                if touch.fate == Fate::Born {
                     switches.add_claim(times, *touch)?;
                 }
-                push_dates(items, *touch, ask, &mut dates)?;
+                push_dates(items, *touch, aim, &mut dates)?;
             }
         }
         switches.claims.sort_unstable();
@@ -197,27 +196,23 @@ impl Switches {
     ) -> Result<(), AllocError> {
         let mut is_held = false;
         for (item, ask) in call.request.items.iter().enumerate() {
-            if !is_possible(items, ask, is_held) {
+            let aim = Aim::of(ask);
+            if !is_possible(items, aim, is_held) {
                 if let Some(gate) = self.gate(place, item, call.request.option) {
                     self.edges.push(gate.is_done().turned())?;
                 }
             }
-            is_held = is_held || is_setting(&ask.asked);
+            is_held = is_held || aim.is_setting();
         }
         Ok(())
     }
 
     /// What is wished where the items of a group are done that need not be.
-    pub(crate) fn gate_of(
-        &self,
-        recording: &Recording<'_, '_>,
-        story: &Story<'_>,
-        group: Group,
-    ) -> Option<Wish> {
+    pub(crate) fn gate_of(&self, story: &Story<'_>, group: Group) -> Option<Wish> {
         if !group.is_asked {
             return None;
         }
-        let call = recording.calls.get(group.call)?;
+        let call = story.recording.calls.get(group.call)?;
         let last = story.touches.get(group.to.wrapping_sub(1))?;
         let gate = self.gate(group.call, last.item, call.request.option)?;
         Some(gate.is_done())
@@ -247,56 +242,54 @@ impl Switches {
     /// Wishes what a course asks of the open calls about its object, and notes what they do.
     pub(crate) fn wish(
         &self,
-        recording: &Recording<'_, '_>,
         story: &Story<'_>,
         chain: &[usize],
         wishes: &mut Vec<Wish>,
         done: &mut Vec<Done>,
     ) -> Result<(), AllocError> {
-        let given = story.given_along(recording, chain);
-        let first = story.first_handling(recording, chain);
+        let given = story.given_along(chain);
+        let first = story.first_handling(chain);
         for (place, touch) in story.touches.iter().enumerate() {
-            let Some(call) = recording.calls.get(touch.call) else {
+            let Some(call) = story.recording.calls.get(touch.call) else {
                 continue;
             };
-            let Some(ask) = open_ask(recording.calls, *touch) else {
+            let Some(aim) = open_aim(story.recording.calls, *touch) else {
                 continue;
             };
             let gate = self.gate(touch.call, touch.item, call.request.option);
             if story.is_done(chain, place) {
-                let date = story.date_left(recording, chain, ask, given);
+                let date = story.date_left(chain, touch.fate, given);
                 let period = match date {
-                    None if first == Some(place) => Period::of_first(given, ask),
+                    None if first == Some(place) => Period::of_first(given, touch.fate),
                     _ => Period::any(),
                 };
-                if !story.is_unseen && is_deed(ask) {
+                if !story.is_unseen && touch.fate.is_deed() {
                     done.push(Done::of(*touch, date, period.since))?;
                 }
                 self.wish_date(*touch, date, wishes)?;
                 self.wish_period(*touch, period, wishes)?;
                 self.wish_claim(*touch, wishes)?;
                 wish_gate(gate, true, wishes)?;
-            } else if story.is_settled(chain, place, ask) {
+            } else if story.is_settled(chain, place, aim) {
                 wish_gate(gate, false, wishes)?;
             } else {
                 self.wish_unclaimed(*touch, wishes)?;
             }
         }
-        self.wish_end(recording, story, chain, wishes)
+        self.wish_end(story, chain, wishes)
     }
 
     /// Wishes the nodes of an object's end behind what destroys it, or behind all where nothing does.
     fn wish_end(
         &self,
-        recording: &Recording<'_, '_>,
         story: &Story<'_>,
         chain: &[usize],
         wishes: &mut Vec<Wish>,
     ) -> Result<(), AllocError> {
-        let by = story.brought_along(recording, chain);
+        let by = story.brought_along(chain);
         let from = self.endings.partition_point(|ending| ending.by < by);
         let to = self.endings.partition_point(|ending| ending.by <= by);
-        let gone = story.gone_along(recording, chain).unwrap_or(self.last);
+        let gone = story.gone_along(chain).unwrap_or(self.last);
         for ending in self.endings.get(from..to).unwrap_or(&[]) {
             wishes.push(Wish {
                 from: gone,
@@ -324,7 +317,7 @@ impl Switches {
                 object: claim.object,
                 call,
                 item,
-                part: Part::Means,
+                fate: Fate::Born,
             };
             let mut wishes = Vec::new(alloc);
             wishes.push(wish)?;
@@ -367,11 +360,10 @@ impl Switches {
     pub(crate) fn absences(
         &self,
         alloc: Global,
-        recording: &Recording<'_, '_>,
         story: &Story<'_>,
     ) -> Result<Vec<Wish>, AllocError> {
         let mut wishes = Vec::new(alloc);
-        let own = story.touches.iter().find(|touch| touch.part == Part::Means);
+        let own = story.touches.iter().find(|touch| touch.fate == Fate::Born);
         let Some(touch) = own else {
             return Ok(wishes);
         };
@@ -386,7 +378,7 @@ impl Switches {
                 }
             }
         }
-        if let Some(call) = recording.calls.get(touch.call) {
+        if let Some(call) = story.recording.calls.get(touch.call) {
             if let Some(gate) = self.gate(touch.call, touch.item, call.request.option) {
                 wishes.push(gate.is_done().turned())?;
             }
@@ -478,31 +470,22 @@ fn wish_gate(gate: Option<Gate>, is_done: bool, wishes: &mut Vec<Wish>) -> Resul
     Ok(())
 }
 
-/// Whether an item makes or changes an object.
-fn is_deed(ask: &Ask<'_>) -> bool {
-    made_by(ask).is_some() || is_changer(&ask.asked)
-}
-
 /// Whether an item of an open call can be done at all, by whether the ID Placeholder is set ahead of it.
-fn is_possible<'b, 'a>(items: &Items<'b>, ask: &'b Ask<'a>, is_held: bool) -> bool {
-    if let Effect::Unread = row_of(&ask.asked).effect {
-        return false;
-    }
-    if is_about_held(&ask.asked) {
-        return is_held;
-    }
-    match named_id(&ask.asked) {
-        Some(id) => items.has(id),
-        None => true,
+fn is_possible<'b>(items: &Items<'b>, aim: Aim<'b>, is_held: bool) -> bool {
+    match aim {
+        Aim::Object(Some(id), _) => items.has(id),
+        Aim::Object(None, _) => is_held,
+        Aim::Unread => false,
+        _ => true,
     }
 }
 
-/// The item of an open call.
-pub(crate) fn open_ask<'b, 'a>(calls: &'b [Call<'a>], touch: Touch) -> Option<&'b Ask<'a>> {
+/// What an item asks for, where its call is open.
+pub(crate) fn open_aim<'b, 'a>(calls: &'b [Call<'a>], touch: Touch) -> Option<Aim<'b>> {
     let call = calls.get(touch.call)?;
     match call.end {
         Some(_) => None,
-        None => call.request.items.get(touch.item),
+        None => Some(Aim::of(call.request.items.get(touch.item)?)),
     }
 }
 
@@ -510,24 +493,25 @@ pub(crate) fn open_ask<'b, 'a>(calls: &'b [Call<'a>], touch: Touch) -> Option<&'
 fn push_dates(
     items: &Items<'_>,
     touch: Touch,
-    ask: &Ask<'_>,
+    aim: Aim<'_>,
     dates: &mut Vec<i64>,
 ) -> Result<(), AllocError> {
     let Some(known) = items.objects.get(touch.object) else {
         return Ok(());
     };
-    match &ask.asked {
-        Asked::Activate(_) => push_shown(known.shown.activation, dates)?,
-        Asked::Revoke(_) => push_shown(known.shown.deactivation, dates)?,
-        Asked::Destroy(_) => push_shown(known.shown.deactivation, dates)?,
+    match touch.fate {
+        Fate::Activated => push_shown(known.shown.activation, dates)?,
+        Fate::Deactivated | Fate::Compromised | Fate::Destroyed => {
+            push_shown(known.shown.deactivation, dates)?
+        }
         _ => {}
     }
-    if let Some(date) = known.shown.date_left(&ask.asked, Given::nothing()) {
+    if let Some(date) = known.shown.date_left(touch.fate, Given::nothing()) {
         dates.push(date)?;
     }
-    match (made_by(ask), known.given) {
-        (Some((_, given)), _) => push_given(given, dates),
-        (None, Some((_, given))) if is_changer(&ask.asked) => push_given(given, dates),
+    match (aim, known.given) {
+        (Aim::Newborn(new), _) => push_given(new.attributes, dates),
+        (_, Some((_, given))) if touch.fate.is_deed() => push_given(given, dates),
         _ => Ok(()),
     }
 }

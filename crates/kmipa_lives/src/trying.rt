@@ -4,14 +4,14 @@ ghost use Rattle.std.specs.Prelude.{◌≡◌, OnOk};
 ghost use Rattle.kmipa_store.specs.Choices.{IsSound};
 
 use crate::answering::answer_of;
+use crate::fates::{Aim, Fate};
 use crate::hidden::is_hidden;
-use crate::items::{Part, Touch};
-use crate::openings::{is_changer, made_by};
+use crate::items::Touch;
 use crate::shown::Given;
-use crate::stories::{Recording, Story, is_compromise, is_destroy};
+use crate::stories::{Story, has_status};
 use crate::times::time_at;
 use kmipa_batch::is_unordered;
-use kmipa_msgs::{Answer, Ask, Asked, Payload, Rules, Status};
+use kmipa_msgs::{Answer, Ask, Payload, Status};
 use kmipa_object::Life;
 use kmipa_ops::{Fit, Placeholder, Refusal, is_readable, matches, take};
 use kmipa_record::Call;
@@ -22,7 +22,6 @@ use std::alloc::{AllocError, Global};
 pub(crate) fn try_change<L: Ledger>(
     alloc: Global,
     ledger: &mut L,
-    recording: &Recording<'_, '_>,
     story: &Story<'_>,
     chain: &[usize],
     group: usize,
@@ -33,7 +32,7 @@ pub(crate) fn try_change<L: Ledger>(
     let Ok(mark) = ledger.mark() else {
         return Err(AllocError);
     };
-    let tried = is_changed_behind(alloc, ledger, recording, story, chain, group);
+    let tried = is_changed_behind(alloc, ledger, story, chain, group);
     ledger.back(mark);
     tried
 }
@@ -41,7 +40,6 @@ pub(crate) fn try_change<L: Ledger>(
 fn is_changed_behind<L: Ledger>(
     alloc: Global,
     ledger: &mut L,
-    recording: &Recording<'_, '_>,
     story: &Story<'_>,
     chain: &[usize],
     group: usize,
@@ -49,11 +47,11 @@ fn is_changed_behind<L: Ledger>(
     requires { IsSound (L.state ledger.old).now }
     ensures { (L.state ledger.new).marks ≡ (L.state ledger.old).marks }
 {
-    if !take_chain(alloc, ledger, recording, story, chain)? {
+    if !take_chain(alloc, ledger, story, chain)? {
         return Ok(false);
     }
     let before = life_of(ledger, story.id);
-    if !take_group(alloc, ledger, recording, story, group)? {
+    if !take_group(alloc, ledger, story, group)? {
         return Ok(false);
     }
     Ok(life_of(ledger, story.id) != before)
@@ -63,7 +61,6 @@ fn is_changed_behind<L: Ledger>(
 pub(crate) fn try_reader<L: Ledger>(
     alloc: Global,
     ledger: &mut L,
-    recording: &Recording<'_, '_>,
     story: &Story<'_>,
     group: usize,
 ) -> Result<bool, AllocError>
@@ -74,7 +71,7 @@ pub(crate) fn try_reader<L: Ledger>(
     let Ok(mark) = ledger.mark() else {
         return Err(AllocError);
     };
-    let tried = is_left_by(alloc, ledger, recording, story, group);
+    let tried = is_left_by(alloc, ledger, story, group);
     ledger.back(mark);
     tried
 }
@@ -82,7 +79,6 @@ pub(crate) fn try_reader<L: Ledger>(
 fn is_left_by<L: Ledger>(
     alloc: Global,
     ledger: &mut L,
-    recording: &Recording<'_, '_>,
     story: &Story<'_>,
     group: usize,
 ) -> Result<bool, AllocError>
@@ -90,10 +86,10 @@ fn is_left_by<L: Ledger>(
     ensures { (L.state ledger.new).marks ≡ (L.state ledger.old).marks }
 {
     let before = life_of(ledger, story.id);
-    if !take_group(alloc, ledger, recording, story, group)? {
+    if !take_group(alloc, ledger, story, group)? {
         return Ok(false);
     }
-    let is_undone = story.time(&recording.times, group).is_undone;
+    let is_undone = story.time(group).is_undone;
     Ok(is_undone || life_of(ledger, story.id) == before)
 }
 
@@ -101,7 +97,6 @@ fn is_left_by<L: Ledger>(
 pub(crate) fn take_chain<L: Ledger>(
     alloc: Global,
     ledger: &mut L,
-    recording: &Recording<'_, '_>,
     story: &Story<'_>,
     chain: &[usize],
 ) -> Result<bool, AllocError>
@@ -109,11 +104,11 @@ pub(crate) fn take_chain<L: Ledger>(
     ensures marks { (L.state ledger.new).marks ≡ (L.state ledger.old).marks }
     ensures sound { OnOk result (IsSound (L.state ledger.new).now) }
 {
-    if recording.is_open {
-        ledger.set_moment(recording.least);
+    if story.recording.is_open {
+        ledger.set_moment(story.recording.least);
     }
     'groups: for group in chain {
-        if !take_group(alloc, ledger, recording, story, *group)? {
+        if !take_group(alloc, ledger, story, *group)? {
             return Ok(false);
         }
     }
@@ -124,7 +119,6 @@ pub(crate) fn take_chain<L: Ledger>(
 fn take_group<L: Ledger>(
     alloc: Global,
     ledger: &mut L,
-    recording: &Recording<'_, '_>,
     story: &Story<'_>,
     group: usize,
 ) -> Result<bool, AllocError>
@@ -133,11 +127,11 @@ fn take_group<L: Ledger>(
     ensures sound { OnOk result (IsSound (L.state ledger.new).now) }
 {
     let touches = story.items(group);
-    if recording.is_open && is_without_order(recording, touches) {
-        return take_in_any_order(alloc, ledger, recording, story, touches);
+    if story.recording.is_open && is_without_order(story, touches) {
+        return take_in_any_order(alloc, ledger, story, touches);
     }
     'touches: for touch in touches {
-        if !take_touch(alloc, ledger, recording, story, *touch)? {
+        if !take_touch(alloc, ledger, story, *touch)? {
             return Ok(false);
         }
     }
@@ -145,9 +139,9 @@ fn take_group<L: Ledger>(
 }
 
 /// Whether these items are of a batch without order.
-fn is_without_order(recording: &Recording<'_, '_>, touches: &[Touch]) -> bool {
+fn is_without_order(story: &Story<'_>, touches: &[Touch]) -> bool {
     match touches.first() {
-        Some(touch) => match recording.calls.get(touch.call) {
+        Some(touch) => match story.recording.calls.get(touch.call) {
             Some(call) => touches.len() > 1 && is_unordered(&call.request),
             None => false,
         },
@@ -159,7 +153,6 @@ fn is_without_order(recording: &Recording<'_, '_>, touches: &[Touch]) -> bool {
 fn take_in_any_order<L: Ledger>(
     alloc: Global,
     ledger: &mut L,
-    recording: &Recording<'_, '_>,
     story: &Story<'_>,
     touches: &[Touch],
 ) -> Result<bool, AllocError>
@@ -167,10 +160,10 @@ fn take_in_any_order<L: Ledger>(
     ensures marks { (L.state ledger.new).marks ≡ (L.state ledger.old).marks }
     ensures sound { OnOk result (IsSound (L.state ledger.new).now) }
 {
-    let mut left = ranked(alloc, recording, story, touches)?;
+    let mut left = ranked(alloc, story, touches)?;
     'rounds: for _ in 0..touches.len() {
         let count = left.len();
-        left = take_round(alloc, ledger, recording, story, &left)?;
+        left = take_round(alloc, ledger, story, &left)?;
         if left.is_empty() || left.len() == count {
             break;
         }
@@ -182,7 +175,6 @@ fn take_in_any_order<L: Ledger>(
 fn take_round<L: Ledger>(
     alloc: Global,
     ledger: &mut L,
-    recording: &Recording<'_, '_>,
     story: &Story<'_>,
     touches: &[(u8, Touch)],
 ) -> Result<Vec<(u8, Touch)>, AllocError>
@@ -190,15 +182,14 @@ fn take_round<L: Ledger>(
     ensures marks { (L.state ledger.new).marks ≡ (L.state ledger.old).marks }
     ensures sound { OnOk result (IsSound (L.state ledger.new).now) }
 {
-    let left = take_possible(alloc, ledger, recording, story, touches, true)?;
-    take_possible(alloc, ledger, recording, story, &left, false)
+    let left = take_possible(alloc, ledger, story, touches, true)?;
+    take_possible(alloc, ledger, story, &left, false)
 }
 
 /// Takes those of these items that are possible and leave the object as it is, or else the first other; and answers those that are left.
 fn take_possible<L: Ledger>(
     alloc: Global,
     ledger: &mut L,
-    recording: &Recording<'_, '_>,
     story: &Story<'_>,
     touches: &[(u8, Touch)],
     is_idle: bool,
@@ -209,34 +200,16 @@ fn take_possible<L: Ledger>(
 {
     let mut left = Vec::new(alloc);
     let mut is_over = false;
-    'touches: for touch in touches {
-        if is_over || !take_ranked(alloc, ledger, recording, story, *touch, is_idle)? {
-            left.push(*touch)?;
+    'touches: for ranked in touches {
+        let (rank, touch) = *ranked;
+        let is_due = !is_over && (rank == IDLE) == is_idle;
+        if !is_due || !take_touch(alloc, ledger, story, touch)? {
+            left.push(*ranked)?;
             continue;
         }
         is_over = !is_idle;
     }
     Ok(left)
-}
-
-/// Takes an item if it is of those that leave the object as it is, or of the others, and is possible.
-fn take_ranked<L: Ledger>(
-    alloc: Global,
-    ledger: &mut L,
-    recording: &Recording<'_, '_>,
-    story: &Story<'_>,
-    ranked: (u8, Touch),
-    is_idle: bool,
-) -> Result<bool, AllocError>
-    requires { IsSound (L.state ledger.old).now }
-    ensures marks { (L.state ledger.new).marks ≡ (L.state ledger.old).marks }
-    ensures sound { OnOk result (IsSound (L.state ledger.new).now) }
-{
-    let (rank, touch) = ranked;
-    if (rank == IDLE) != is_idle {
-        return Ok(false);
-    }
-    take_touch(alloc, ledger, recording, story, touch)
 }
 
 /// The rank of an item that leaves the object as it is.
@@ -245,16 +218,15 @@ const IDLE: u8 = 0;
 /// These items by their ranks.
 fn ranked(
     alloc: Global,
-    recording: &Recording<'_, '_>,
     story: &Story<'_>,
     touches: &[Touch],
 ) -> Result<Vec<(u8, Touch)>, AllocError> {
     let is_late = touches
         .iter()
-        .any(|touch| is_destroyed_first(recording, story, *touch));
+        .any(|touch| is_destroyed_first(story, *touch));
     let mut ranked = Vec::with_capacity(alloc, touches.len())?;
     for touch in touches {
-        ranked.push((rank_of(recording, *touch, is_late), *touch))?;
+        ranked.push((rank_of(story, *touch, is_late), *touch))?;
     }
     ranked.sort_unstable();
     Ok(ranked)
@@ -264,11 +236,11 @@ fn ranked(
 const DESTROYED: u32 = 5;
 
 /// Whether an item shows that the object was destroyed before it was compromised: it is Destroyed, or the Destroy has deactivated it.
-fn is_destroyed_first(recording: &Recording<'_, '_>, story: &Story<'_>, touch: Touch) -> bool {
-    let Some(call) = recording.calls.get(touch.call) else {
+fn is_destroyed_first(story: &Story<'_>, touch: Touch) -> bool {
+    let Some(call) = story.recording.calls.get(touch.call) else {
         return false;
     };
-    let (Some(ask), Some(response)) = (call.request.items.get(touch.item), &call.response) else {
+    let Some(response) = &call.response else {
         return false;
     };
     let Some(answer) = response.items.get(touch.item) else {
@@ -276,42 +248,27 @@ fn is_destroyed_first(recording: &Recording<'_, '_>, story: &Story<'_>, touch: T
     };
     match &answer.payload {
         Some(Payload::GetAttributes(got)) => got.attributes.state == Some(DESTROYED),
-        _ => is_destroy(&ask.asked) && story.shown.deactivation.has(response.stamp),
+        _ => touch.fate == Fate::Destroyed && story.shown.deactivation.has(response.stamp),
     }
 }
 
 /// When an item comes in a batch without order: what changes an object comes in the order of a life. A Destroy comes behind what compromises the
 /// object, or ahead of it where this `is_late`.
-fn rank_of(recording: &Recording<'_, '_>, touch: Touch, is_late: bool) -> u8 {
-    let Some(call) = recording.calls.get(touch.call) else {
+fn rank_of(story: &Story<'_>, touch: Touch, is_late: bool) -> u8 {
+    let Some(call) = story.recording.calls.get(touch.call) else {
         return IDLE;
     };
-    let Some(ask) = call.request.items.get(touch.item) else {
-        return IDLE;
-    };
-    if touch.part != Part::Means || is_failed(call, touch.item) {
+    if has_status(call, touch.item, Status::Failed) {
         return IDLE;
     }
-    match &ask.asked {
-        Asked::Create(_) => 1,
-        Asked::Register(_) => 1,
-        Asked::Activate(_) => 2,
-        Asked::Revoke(revoke) if is_compromise(revoke.code) && is_late => 6,
-        Asked::Revoke(revoke) if is_compromise(revoke.code) => 4,
-        Asked::Revoke(_) => 3,
-        Asked::Destroy(_) => 5,
+    match touch.fate {
+        Fate::Born => 1,
+        Fate::Activated => 2,
+        Fate::Deactivated => 3,
+        Fate::Compromised if is_late => 6,
+        Fate::Compromised => 4,
+        Fate::Destroyed => 5,
         _ => IDLE,
-    }
-}
-
-/// Whether an answer says that the item at a place failed.
-fn is_failed(call: &Call<'_>, item: usize) -> bool {
-    let Some(response) = &call.response else {
-        return false;
-    };
-    match response.items.get(item) {
-        Some(answer) => answer.status == Status::Failed,
-        None => false,
     }
 }
 
@@ -319,7 +276,6 @@ fn is_failed(call: &Call<'_>, item: usize) -> bool {
 fn take_touch<L: Ledger>(
     alloc: Global,
     ledger: &mut L,
-    recording: &Recording<'_, '_>,
     story: &Story<'_>,
     touch: Touch,
 ) -> Result<bool, AllocError>
@@ -327,28 +283,27 @@ fn take_touch<L: Ledger>(
     ensures marks { (L.state ledger.new).marks ≡ (L.state ledger.old).marks }
     ensures sound { OnOk result (IsSound (L.state ledger.new).now) }
 {
-    let id = story.id;
-    let Some(call) = recording.calls.get(touch.call) else {
+    let Some(call) = story.recording.calls.get(touch.call) else {
         return Ok(false);
     };
     let Some(ask) = call.request.items.get(touch.item) else {
         return Ok(false);
     };
     let Some(response) = &call.response else {
-        return take_open(alloc, ledger, recording, story, touch.call, ask);
+        return take_open(alloc, ledger, story, touch, ask);
     };
     let Some(answer) = response.items.get(touch.item) else {
         return Ok(false);
     };
     ledger.set_moment(response.stamp);
-    match touch.part {
-        Part::Means if is_hidden(ask, answer) => {
-            let full = answer_of(ask, id, Status::Undone);
-            take_item(alloc, ledger, &recording.rules, id, ask, &full)
+    match touch.fate {
+        Fate::Listed => Ok(fit_of(ledger, story.id, ask) != Fit::Not),
+        Fate::LeftOut => Ok(fit_of(ledger, story.id, ask) != Fit::Must),
+        _ if is_hidden(ask, answer) => {
+            let full = answer_of(ask, story.id, Status::Undone);
+            take_item(alloc, ledger, story, ask, &full)
         }
-        Part::Means => take_item(alloc, ledger, &recording.rules, id, ask, answer),
-        Part::Lists => Ok(fit_of(ledger, id, ask) != Fit::Not),
-        Part::LeavesOut => Ok(fit_of(ledger, id, ask) != Fit::Must),
+        _ => take_item(alloc, ledger, story, ask, answer),
     }
 }
 
@@ -357,27 +312,28 @@ fn take_touch<L: Ledger>(
 fn take_open<L: Ledger>(
     alloc: Global,
     ledger: &mut L,
-    recording: &Recording<'_, '_>,
     story: &Story<'_>,
-    call: usize,
+    touch: Touch,
     ask: &Ask<'_>,
 ) -> Result<bool, AllocError>
     requires { IsSound (L.state ledger.old).now }
     ensures marks { (L.state ledger.new).marks ≡ (L.state ledger.old).marks }
     ensures sound { OnOk result (IsSound (L.state ledger.new).now) }
 {
-    if made_by(ask).is_none() && !is_changer(&ask.asked) {
-        return Ok(is_read(ledger, story.id, ask));
+    if !touch.fate.is_deed() {
+        return Ok(is_there(ledger, story.id, touch.fate));
     }
-    if let Some(date) = date_behind(ledger, story, ask) {
-        return take_done(alloc, ledger, recording, story, ask, date);
+    if let Some(date) = date_behind(ledger, story, touch.fate) {
+        return take_done(alloc, ledger, story, ask, date);
     }
-    let soon = ledger.moment().max(time_at(&recording.times, call).stamp);
-    if take_done(alloc, ledger, recording, story, ask, soon)? {
+    let soon = ledger
+        .moment()
+        .max(time_at(&story.recording.times, touch.call).stamp);
+    if take_done(alloc, ledger, story, ask, soon)? {
         return Ok(true);
     }
-    match activation_of(ledger, story, ask) {
-        Some(date) if date > soon => take_done(alloc, ledger, recording, story, ask, date),
+    match activation_of(ledger, story, touch.fate) {
+        Some(date) if date > soon => take_done(alloc, ledger, story, ask, date),
         _ => Ok(false),
     }
 }
@@ -386,7 +342,6 @@ fn take_open<L: Ledger>(
 fn take_done<L: Ledger>(
     alloc: Global,
     ledger: &mut L,
-    recording: &Recording<'_, '_>,
     story: &Story<'_>,
     ask: &Ask<'_>,
     date: i64,
@@ -397,45 +352,44 @@ fn take_done<L: Ledger>(
 {
     ledger.set_moment(date);
     let answer = answer_of(ask, story.id, Status::Success);
-    take_item(alloc, ledger, &recording.rules, story.id, ask, &answer)
+    take_item(alloc, ledger, story, ask, &answer)
 }
 
 /// The date from which on the object is active, where a Revoke asks for it.
-fn activation_of<L: Ledger>(ledger: &L, story: &Story<'_>, ask: &Ask<'_>) -> Option<i64> {
-    match (life_of(ledger, story.id), &ask.asked) {
-        (Some(life), Asked::Revoke(_)) => life.activation,
+fn activation_of<L: Ledger>(ledger: &L, story: &Story<'_>, fate: Fate) -> Option<i64> {
+    match life_of(ledger, story.id) {
+        Some(life) if fate.is_revoked() => life.activation,
         _ => None,
     }
 }
 
 /// The date that the success of an item leaves on the object as it is, as far as one is shown: a Destroy also deactivates.
-fn date_behind<L: Ledger>(ledger: &L, story: &Story<'_>, ask: &Ask<'_>) -> Option<i64> {
+fn date_behind<L: Ledger>(ledger: &L, story: &Story<'_>, fate: Fate) -> Option<i64> {
     let Some(place) = ledger.find(story.id) else {
-        return story.shown.date_left(&ask.asked, Given::nothing());
+        return story.shown.date_left(fate, Given::nothing());
     };
     let object = ledger.at(place);
     let given = Given::of(&object.given);
-    let date = story.shown.date_left(&ask.asked, given);
-    if date.is_some() || !is_destroy(&ask.asked) || object.life.deactivation != given.deactivation {
+    let date = story.shown.date_left(fate, given);
+    let is_deactivated = object.life.deactivation != given.deactivation;
+    if date.is_some() || fate != Fate::Destroyed || is_deactivated {
         return date;
     }
     story.shown.deactivation.besides(given.deactivation)
 }
 
-/// Whether the object is there to be read.
-fn is_read<L: Ledger>(ledger: &L, id: &str, ask: &Ask<'_>) -> bool {
-    match (life_of(ledger, id), &ask.asked) {
-        (Some(life), Asked::Get(_)) => life.destroy.is_none(),
-        (Some(_), _) => true,
-        (None, _) => false,
+/// Whether the object is there to be looked at, with its bytes where these are shown.
+fn is_there<L: Ledger>(ledger: &L, id: &str, fate: Fate) -> bool {
+    match life_of(ledger, id) {
+        Some(life) => fate != Fate::Read || life.destroy.is_none(),
+        None => false,
     }
 }
 
 fn take_item<L: Ledger>(
     alloc: Global,
     ledger: &mut L,
-    rules: &Rules,
-    id: &str,
+    story: &Story<'_>,
     ask: &Ask<'_>,
     answer: &Answer<'_>,
 ) -> Result<bool, AllocError>
@@ -447,8 +401,9 @@ fn take_item<L: Ledger>(
         return Ok(false);
     }
     let mut placeholder = Placeholder {
-        id: Some(String::from_str(alloc, id)?),
+        id: Some(String::from_str(alloc, story.id)?),
     };
+    let rules = &story.recording.rules;
     let t = ledger.moment();
     match take(alloc, ledger, rules, &mut placeholder, t, ask, answer) {
         Ok(()) => Ok(true),
@@ -459,9 +414,9 @@ fn take_item<L: Ledger>(
 
 /// How the object fits a Locate at the ledger's moment; not, where it isn't there.
 fn fit_of<L: Ledger>(ledger: &L, id: &str, ask: &Ask<'_>) -> Fit {
-    match (ledger.find(id), &ask.asked) {
-        (Some(place), Asked::Locate(locate)) => {
-            matches(ledger.at(place), &locate.filter, ledger.state(place))
+    match (ledger.find(id), Aim::of(ask)) {
+        (Some(place), Aim::Fitting(filter)) => {
+            matches(ledger.at(place), filter, ledger.state(place))
         }
         _ => Fit::Not,
     }

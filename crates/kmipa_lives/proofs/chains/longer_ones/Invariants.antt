@@ -1,5 +1,5 @@
 use Rattle.kmipa_store.specs.Choices.{IsSound}
-use Rattle.kmipa_lives.proofs.chains.lengthen.Given as goal
+use Rattle.kmipa_lives.proofs.chains.longer_ones.Given as goal
 
 abbrev pub invariant-groups : goal.invariant-groups
 invariant-groups g l = IsSound (g.L.Ledger.state l.ledger).now
