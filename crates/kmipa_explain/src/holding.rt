@@ -43,6 +43,15 @@ use kmipa_ops::{Why, reasons_are_decided, row_of};
 use kmipa_record::{Declaration, Entry};
 use std::alloc::{AllocError, Global};
 
+/// An item that is refused, with its answer, the moment of its call, and the reason.
+#[derive(Clone, Copy)]
+struct RefusedItem<'c, 'a> {
+    ask: &'c Ask<'a>,
+    answer: &'c Answer<'a>,
+    t: i64,
+    why: Why,
+}
+
 /// What the reason rests on for which an item of a turn's call is refused, where it speaks of what the server held. Turns are counted from
 /// 0 here, items from 1.
 pub fn held_cause(
@@ -111,15 +120,13 @@ fn cause_in(
     let ask = ask_there(step, item);
     let answer = answer_there(step, item);
     let meant = about_in(alloc, ask, answer, &standing.placeholder.id)?;
-    cause_of_meant(
-        alloc,
-        &standing.held,
-        meant,
-        step.moment(),
+    let refused = RefusedItem {
         ask,
         answer,
+        t: step.moment(),
         why,
-    )
+    };
+    cause_of_meant(alloc, &standing.held, meant, refused)
 }
 
 /// The same where this identifier is meant.
@@ -127,15 +134,19 @@ fn cause_of_meant(
     alloc: Global,
     held: &Declaration,
     meant: Option<String>,
-    t: i64,
-    ask: &Ask,
-    answer: &Answer,
-    why: Why,
+    refused: RefusedItem<'_, '_>,
 ) -> Result<Cause, AllocError>
-    requires { HeldReason why (declaration_of held.now) (text_of meant) t (ask_of ask.now) (answer_of answer.now) }
-    ensures { IfOk result (TellsHeld why (declaration_of held.now) (text_of meant) t (ask_of ask.now)
-        (answer_of answer.now)) }
+    requires { HeldReason refused.why (declaration_of held.now) (text_of meant) refused.t (ask_of refused.ask.now)
+        (answer_of refused.answer.now) }
+    ensures { IfOk result (TellsHeld refused.entry.why (declaration_of held.now) (text_of meant) refused.entry.t
+        (ask_of refused.entry.ask.now) (answer_of refused.entry.answer.now)) }
 {
+    let RefusedItem {
+        ask,
+        answer,
+        t,
+        why,
+    } = refused;
     match why {
         Why::NoSuchObject => Ok(Cause::NoObject(meant)),
         Why::WrongState => state_cause(alloc, held, &meant, t, ask),

@@ -34,6 +34,14 @@ pub(crate) struct Standing {
     pub placeholder: Placeholder,
 }
 
+/// Where an item is refused, turn and item counted from 0, and the reason, which is only told of, in the clauses.
+#[derive(Clone, Copy)]
+struct RefusedPlace {
+    turn: usize,
+    place: usize,
+    why: Why,
+}
+
 /// What a server of this declaration can have held where the item of a turn was refused, turn and item counted from 0. The reason is
 /// only told of, in the clauses.
 pub(crate) fn standing_at(
@@ -54,16 +62,8 @@ pub(crate) fn standing_at(
 {
     let rules = rules_of_declaration(alloc, declaration)?;
     let mut ledger = open_ledger(alloc, declaration)?;
-    standing_over(
-        alloc,
-        &mut ledger,
-        &rules,
-        declaration,
-        steps,
-        turn,
-        place,
-        why,
-    )
+    let refused = RefusedPlace { turn, place, why };
+    standing_over(alloc, &mut ledger, &rules, declaration, steps, refused)
 }
 
 /// The same over a ledger that the declaration opened.
@@ -73,22 +73,21 @@ fn standing_over<L: Ledger>(
     rules: &Rules,
     declaration: &Declaration,
     steps: &[Step],
-    turn: usize,
-    place: usize,
-    why: Why,
+    refused: RefusedPlace,
 ) -> Result<Standing, CheckFault>
-    requires within { turn < length steps.now }
+    requires within { refused.turn < length steps.now }
     requires sound { IsSound (L.state ledger.old).now }
     requires opened { AreKnown (declaration_of declaration.now) [] (L.state ledger.old).now }
     requires rules { rules_of rules.now ≡ rules_declared (declaration_of declaration.now) }
     requires takable { AllTakable (map step_of steps.now) }
-    requires refused { (c : StepOf) × IsItemRefused (declaration_of declaration.now) (map step_of steps.now) turn c
-        place why }
-    ensures stands { (c : StepOf) → slice_get (map step_of steps.now) turn ≡ Some c
-        → IfOk result (λ s. IsStanding (declaration_of declaration.now) (map step_of steps.now) turn c (place + 1) why
+    requires refused { (c : StepOf) × IsItemRefused (declaration_of declaration.now) (map step_of steps.now) refused.turn c
+        refused.place refused.why }
+    ensures stands { (c : StepOf) → slice_get (map step_of steps.now) refused.turn ≡ Some c
+        → IfOk result (λ s. IsStanding (declaration_of declaration.now) (map step_of steps.now) refused.turn c (refused.place + 1) refused.why
         (declaration_of s.held) (placeholder_of s.placeholder)) }
     ensures memory { IfErr result (λ fault. fault ≡ CheckFault.Memory) }
 {
+    let RefusedPlace { turn, place, .. } = refused;
     take_turns(alloc, ledger, rules, steps, turn)?;
     let mut placeholder = Placeholder::new();
     take_ahead(alloc, ledger, rules, &mut placeholder, &steps[turn], place)?;
