@@ -1,11 +1,11 @@
 //! The search with what the server itself gives at birth, where the declaration has own lines.
 
-ghost use Rattle.std.specs.Prelude.{◌≡◌, IfErr, IfOk};
+ghost use Rattle.std.specs.Prelude.{◌≡◌, IfErr};
 ghost use Rattle.kmipa_record.specs.Declarations.{AreDeclared, declaration_of};
 ghost use Rattle.kmipa_record.specs.Marks.{AreRecorded};
 ghost use Rattle.kmipa_record.specs.Transcripts.{transcript_of};
 ghost use Rattle.kmipa_check.specs.Grants.{GrantsNothing, grants_declared};
-ghost use Rattle.kmipa_orders.specs.Found.{Finds};
+ghost use Rattle.kmipa_orders.specs.ByMoments.{FindsBehind};
 
 use crate::births::{GivenAtBirth, given_at_birth};
 use crate::by_lives::places_by_lives;
@@ -33,8 +33,7 @@ pub(crate) fn search_with_births(
     requires declared { AreDeclared (declaration_of declaration.now) }
     requires granted { GrantsNothing (grants_declared (declaration_of declaration.now)) → ⊥ }
     ensures finds { AreRecorded (transcript_of transcript.now)
-        → Finds (transcript_of transcript.now) (declaration_of declaration.now) budget (Found.GaveUp steps)
-        → IfOk result (Finds (transcript_of transcript.now) (declaration_of declaration.now) budget) }
+        → FindsBehind (transcript_of transcript.now) (declaration_of declaration.now) budget (Found.GaveUp steps) result }
     ensures memory { IfErr result (λ fault. fault ≡ CheckFault.Memory) }
 {
     if declaration.own_attributes.is_empty() {

@@ -1,11 +1,11 @@
 //! The search at other moments than Time Stamps, where the declaration has a tolerance.
 
-ghost use Rattle.std.specs.Prelude.{◌≡◌, ◌≤◌, ◌⊎◌, ℕ, IfErr, IfOk, IfSome, length};
+ghost use Rattle.std.specs.Prelude.{◌≡◌, ◌≤◌, ◌⊎◌, ℕ, IfErr, IfSome, length};
 ghost use Rattle.kmipa_record.specs.Declarations.{AreDeclared, declaration_of};
 ghost use Rattle.kmipa_record.specs.Marks.{AreRecorded};
 ghost use Rattle.kmipa_record.specs.Transcripts.{transcript_of};
 ghost use Rattle.kmipa_check.specs.Grants.{GrantsNothing, grants_declared};
-ghost use Rattle.kmipa_orders.specs.ByMoments.{IsKept};
+ghost use Rattle.kmipa_orders.specs.ByMoments.{FindsBehind, IsKept};
 ghost use Rattle.kmipa_orders.specs.Found.{Finds, FindsIn, Searches, SearchesIn};
 
 use crate::births::GivenAtBirth;
@@ -89,7 +89,7 @@ fn found_at_moments(
     match found {
         Found::Yes(witness, steps) => Ok(Found::Yes(witness, steps)),
         Found::GaveUp(steps) => gave_up(alloc, transcript, declaration, calls, budget, steps),
-        Found::Refuted(steps, object) => Ok(Found::Refuted(steps, object)),
+        Found::Refuted(steps, objects) => Ok(Found::Refuted(steps, objects)),
         Found::Impossible(steps, call) => Ok(Found::Impossible(steps, call)),
         Found::OutOfTime(steps, after) => Ok(Found::OutOfTime(steps, after)),
     }
@@ -129,8 +129,7 @@ fn search_at_moments(
     requires declared { AreDeclared (declaration_of declaration.now) }
     requires granted { GrantsNothing (grants_declared (declaration_of declaration.now)) → ⊥ }
     ensures finds { AreRecorded (transcript_of transcript.now)
-        → Finds (transcript_of transcript.now) (declaration_of declaration.now) budget (Found.GaveUp steps)
-        → IfOk result (Finds (transcript_of transcript.now) (declaration_of declaration.now) budget) }
+        → FindsBehind (transcript_of transcript.now) (declaration_of declaration.now) budget (Found.GaveUp steps) result }
     ensures memory { IfErr result (λ fault. fault ≡ CheckFault.Memory) }
 {
     let none = GivenAtBirth::none(alloc);
@@ -158,8 +157,7 @@ pub(crate) fn or_turns(
     requires declared { AreDeclared (declaration_of declaration.now) }
     requires granted { GrantsNothing (grants_declared (declaration_of declaration.now)) → ⊥ }
     ensures finds { AreRecorded (transcript_of transcript.now)
-        → Finds (transcript_of transcript.now) (declaration_of declaration.now) budget found
-        → IfOk result (Finds (transcript_of transcript.now) (declaration_of declaration.now) budget) }
+        → FindsBehind (transcript_of transcript.now) (declaration_of declaration.now) budget found result }
     ensures memory { IfErr result (λ fault. fault ≡ CheckFault.Memory) }
 {
     match found {
@@ -180,8 +178,7 @@ pub(crate) fn try_turns(
     requires declared { AreDeclared (declaration_of declaration.now) }
     requires granted { GrantsNothing (grants_declared (declaration_of declaration.now)) → ⊥ }
     ensures finds { AreRecorded (transcript_of transcript.now)
-        → Finds (transcript_of transcript.now) (declaration_of declaration.now) budget (Found.GaveUp steps)
-        → IfOk result (Finds (transcript_of transcript.now) (declaration_of declaration.now) budget) }
+        → FindsBehind (transcript_of transcript.now) (declaration_of declaration.now) budget (Found.GaveUp steps) result }
     ensures memory { IfErr result (λ fault. fault ≡ CheckFault.Memory) }
 {
     let Some(turns) = turns else {

@@ -9,8 +9,10 @@ use kmipa_batch::{is_refused_message, is_unordered};
 use kmipa_check::CheckFault;
 use kmipa_lives::{Proposed, hidden_id};
 use kmipa_msgs::{
-    Answer, Ask, BatchOption, ReadFault, Response, Rules, Status, is_wanted, read_payload,
+    Answer, Ask, Asked, BatchOption, Payload, ReadFault, Response, Rules, Status, is_wanted,
+    read_payload,
 };
+use kmipa_object::{Act, State};
 use kmipa_ops::{Effect, Placeholder, Refusal, is_readable, row_of, take};
 use kmipa_orders::payload_at;
 use kmipa_record::{Call, Fill, Turn};
@@ -295,9 +297,14 @@ impl<'c, 'a> Batch<'c, 'a> {
 
     /// None is taken.
     fn begun(&self, alloc: Global) -> Result<Making, AllocError> {
-        let mut left = Vec::new(alloc);
+        let mut ranked = Vec::new(alloc);
         for item in 0..self.count() {
-            left.push(item)?;
+            ranked.push((self.rank(item), item))?;
+        }
+        ranked.sort_unstable();
+        let mut left = Vec::new(alloc);
+        for (_, item) in &ranked {
+            left.push(*item)?;
         }
         Ok(Making {
             placeholder: Placeholder::new(),
@@ -310,13 +317,63 @@ impl<'c, 'a> Batch<'c, 'a> {
     /// So many of the items that are left may be next. The failure that ended the batch is the last one.
     fn tries(&self, making: &Making) -> usize {
         let count = making.left.len();
-        if !self.is_loose || self.count() > MOST_LOOSE {
+        if !self.is_tried() {
             return 1;
         }
         match self.response.items.last() {
             Some(answer) if self.ends(answer) && count > 1 => count.saturating_sub(1),
             _ => count,
         }
+    }
+
+    /// Whether its items are tried in other orders than by place.
+    fn is_tried(&self) -> bool {
+        self.is_loose && self.count() <= MOST_LOOSE
+    }
+
+    /// When an item comes in a batch without order: what changes an object comes in the order of a life, and the failure that ended the batch last.
+    fn rank(&self, item: usize) -> u8 {
+        if !self.is_tried() {
+            return 0;
+        }
+        match (
+            self.call.request.items.get(item),
+            self.response.items.get(item),
+        ) {
+            (Some(ask), Some(answer)) => {
+                if answer.status == Status::Failed {
+                    if self.ends(answer) { 6 } else { 0 }
+                } else {
+                    self.rank_done(ask)
+                }
+            }
+            _ => 0,
+        }
+    }
+
+    /// The same of an item that was done.
+    fn rank_done(&self, ask: &Ask<'a>) -> u8 {
+        let subject = row_of(&ask.asked).subject;
+        match subject.act() {
+            Some(Act::Activate) => 1,
+            Some(Act::RevokeOther) => 2,
+            Some(Act::RevokeCompromised) => {
+                if self.shows_destroyed(subject.id()) {
+                    5
+                } else {
+                    3
+                }
+            }
+            Some(Act::Destroy) => 4,
+            _ => 0,
+        }
+    }
+
+    /// Whether an item shows an object as Destroyed, so that it was compromised behind that, if at all.
+    fn shows_destroyed(&self, id: Option<&str>) -> bool {
+        let asks = self.call.request.items.iter();
+        asks.zip(self.response.items.iter())
+            .any(|(ask, answer)| shows_destroyed(id, ask, answer))
     }
 
     fn ends(&self, answer: &Answer<'a>) -> bool {
@@ -334,6 +391,16 @@ impl<'c, 'a> Batch<'c, 'a> {
             }
             _ => true,
         }
+    }
+}
+
+/// Whether an item shows the object of this identifier as Destroyed.
+fn shows_destroyed(id: Option<&str>, ask: &Ask<'_>, answer: &Answer<'_>) -> bool {
+    match (&ask.asked, &answer.payload) {
+        (Asked::GetAttributes(get), Some(Payload::GetAttributes(got))) => {
+            get.id == id && got.attributes.state == Some(State::Destroyed.number())
+        }
+        _ => false,
     }
 }
 

@@ -27,7 +27,7 @@ returns-in-Refuted c = λ seconds kept r k finds.
     let marks = transcript_of c.args.transcript.now in
     let declared = declaration_of c.args.declaration.now in
     let P : Found → Type 0 = λ x. FindsIn seconds marks declared kept x in
-    raised marks declared c.args.budget kept (Refuted c.in-Refuted.steps c.in-Refuted.object) k (subst P c.in-Refuted.is finds)
+    raised marks declared c.args.budget kept (Refuted c.in-Refuted.steps c.in-Refuted.objects) k (subst P c.in-Refuted.is finds)
 
 pub returns-in-Impossible : goal.returns-in-Impossible
 returns-in-Impossible c = λ seconds kept r k finds.
