@@ -18,7 +18,7 @@ pub struct JsonList {
 
 impl JsonList {
     ghost use Rattle.std.specs.Prelude.{OnOk, OnErr};
-    ghost use Rattle.serde_json.specs.Data.{array, no_items, object};
+    ghost use Rattle.serde_json.specs.Data.{array, no_items, object, string};
     ghost use Rattle.serde_json.specs.View.{view};
     ghost use Rattle.serde_json.specs.Written.{has_float};
     ghost use Rattle.kmipa_json.specs.Told.{integer, items_of, members_of, with_item};
@@ -47,6 +47,15 @@ impl JsonList {
         ensures err { OnErr result (items_of self.new ≡ items_of self.old) }
     {
         self.push(Value::from(number))
+    }
+
+    /// Puts a text behind the others.
+    pub fn push_text(&mut self, text: &str) -> Result<(), AllocError>
+        ensures ok { OnOk result (items_of self.new ≡ with_item (string text.now) (items_of self.old)) }
+        ensures err { OnErr result (items_of self.new ≡ items_of self.old) }
+    {
+        let value = Value::try_from_str(self.alloc, text)?;
+        self.push(value)
     }
 
     /// Puts a value behind the others.
