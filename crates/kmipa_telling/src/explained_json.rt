@@ -16,7 +16,7 @@ ghost use Rattle.kmipa_telling.specs.Telling.{check_files, opened};
 use crate::claims::tell_meaning;
 use crate::explained::{Explained, explain_records};
 use crate::faults::tell_fault_told;
-use crate::held::Held;
+use crate::held::{Held, ReadFiles};
 use crate::json::open_files;
 use crate::judging::records_held;
 use crate::meaning::FaultTold;
@@ -61,15 +61,13 @@ pub fn explain_json<R: Read>(
     let mut held = Held::new(alloc);
     match explain_held(alloc, transcript, declaration, witness, &mut held) {
         Ok(outcome) => {
-            let lines = lines_of(
-                alloc,
-                torn,
+            let files = ReadFiles {
                 transcript,
                 declaration,
                 witness,
-                &held,
-                &outcome,
-            );
+                held: &held,
+            };
+            let lines = lines_of(alloc, torn, &files, &outcome);
             Answered {
                 status: append(lines, out),
                 head: explained_head(outcome),
@@ -96,18 +94,16 @@ fn explained_head(outcome: Result<Explained, FaultTold>) -> Option<Head>
 fn lines_of<R>(
     alloc: Global,
     torn: Option<u64>,
-    transcript: &Input<R>,
-    declaration: &Input<R>,
-    witness: &Input<R>,
-    held: &Held,
+    files: &ReadFiles<R>,
     outcome: &Result<Explained, FaultTold>,
 ) -> Result<Lines, AllocError>
-    requires held { HoldsAll held.now transcript.now declaration.now witness.now }
-    requires known { KnowsJudged outcome.now (came_of transcript.now) (explained_head outcome.now) }
-    ensures { IfOk result (λ lines. PrintsExplainedJson torn transcript.now declaration.now witness.now outcome.now
-        lines.status (string_bytes lines.text)) }
+    requires held { HoldsAll files.now.held.now files.now.transcript.now files.now.declaration.now
+        files.now.witness.now }
+    requires known { KnowsJudged outcome.now (came_of files.now.transcript.now) (explained_head outcome.now) }
+    ensures { IfOk result (λ lines. PrintsExplainedJson torn files.now.transcript.now files.now.declaration.now
+        files.now.witness.now outcome.now lines.status (string_bytes lines.text)) }
 {
-    let mut told = opened_object(alloc, torn, transcript, declaration, witness, held, outcome)?;
+    let mut told = opened_object(alloc, torn, files, outcome)?;
     let status = tell_explained(alloc, &mut told, outcome)?;
     Ok(Lines {
         text: told.into_line()?,
@@ -119,27 +115,18 @@ fn lines_of<R>(
 fn opened_object<R>(
     alloc: Global,
     torn: Option<u64>,
-    transcript: &Input<R>,
-    declaration: &Input<R>,
-    witness: &Input<R>,
-    held: &Held,
+    files: &ReadFiles<R>,
     outcome: &Result<Explained, FaultTold>,
 ) -> Result<JsonObject, AllocError>
-    requires { HoldsAll held.now transcript.now declaration.now witness.now }
+    requires { HoldsAll files.now.held.now files.now.transcript.now files.now.declaration.now
+        files.now.witness.now }
     ensures { IfOk result (λ told. members_of told
-        ≡ opened (check_files torn (explained_head outcome.now) transcript.now declaration.now witness.now)) }
+        ≡ opened (check_files torn (explained_head outcome.now) files.now.transcript.now files.now.declaration.now
+        files.now.witness.now)) }
 {
     match outcome {
-        Ok(explained) => open_files(
-            alloc,
-            torn,
-            transcript,
-            declaration,
-            witness,
-            held,
-            &explained.records.transcript.head,
-        ),
-        Err(_) => open_files(alloc, torn, transcript, declaration, witness, held, &None),
+        Ok(explained) => open_files(alloc, torn, files, &explained.records.transcript.head),
+        Err(_) => open_files(alloc, torn, files, &None),
     }
 }
 

@@ -107,7 +107,10 @@ fn explained_lines(alloc: Global, explained: &Explained) -> Result<Lines, AllocE
 }
 
 /// The lines of an explanation, where there is one.
-fn explanation_lines(alloc: Global, explanation: &Option<Explanation>) -> Result<String, AllocError>
+pub fn explanation_lines(
+    alloc: Global,
+    explanation: &Option<Explanation>,
+) -> Result<String, AllocError>
     ensures { IfOk result (λ text. PrintsMore explanation.now (string_bytes text)) }
 {
     match explanation {

@@ -1,5 +1,6 @@
 //! The bytes of the files that are judged.
 
+use kmipa_ttlv::Input;
 use std::alloc::Global;
 
 /// The bytes of the three files of an audit, as far as they came.
@@ -23,4 +24,13 @@ impl Held {
             witness: Vec::new(alloc),
         }
     }
+}
+
+/// The three files of an audit that were read, and what came of them.
+#[derive(Clone, Copy)]
+pub struct ReadFiles<'f, R> {
+    pub transcript: &'f Input<R>,
+    pub declaration: &'f Input<R>,
+    pub witness: &'f Input<R>,
+    pub held: &'f Held,
 }

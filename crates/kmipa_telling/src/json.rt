@@ -12,7 +12,7 @@ ghost use Rattle.kmipa_telling.specs.Judging.{AreEnded, AuditsInputs};
 ghost use Rattle.kmipa_telling.specs.Seals.{KnowsJudged};
 ghost use Rattle.kmipa_telling.specs.Telling.{PrintsJson, TellsOutcome, audit_head, check_files, input_members, opened, own_bytes, read_members, transcript_members};
 
-use crate::held::Held;
+use crate::held::{Held, ReadFiles};
 use crate::judging::audit_held;
 use crate::seals::tell_seal;
 use crate::telling::{tell_fault, tell_verdict};
@@ -60,15 +60,13 @@ pub fn check_json<R: Read>(
     let mut held = Held::new(alloc);
     match audit_held(alloc, transcript, declaration, witness, &mut held) {
         Ok(outcome) => {
-            let lines = lines_of(
-                alloc,
-                torn,
+            let files = ReadFiles {
                 transcript,
                 declaration,
                 witness,
-                &held,
-                &outcome,
-            );
+                held: &held,
+            };
+            let lines = lines_of(alloc, torn, &files, &outcome);
             Answered {
                 status: append(lines, out),
                 head: audit_head(outcome),
@@ -95,18 +93,16 @@ fn audit_head(outcome: Result<Audited, AuditFault>) -> Option<Head>
 fn lines_of<R>(
     alloc: Global,
     torn: Option<u64>,
-    transcript: &Input<R>,
-    declaration: &Input<R>,
-    witness: &Input<R>,
-    held: &Held,
+    files: &ReadFiles<R>,
     outcome: &Result<Audited, AuditFault>,
 ) -> Result<Lines, AllocError>
-    requires held { HoldsAll held.now transcript.now declaration.now witness.now }
-    requires known { KnowsJudged outcome.now (came_of transcript.now) (audit_head outcome.now) }
-    ensures { IfOk result (λ lines. PrintsJson torn transcript.now declaration.now witness.now outcome.now
-        lines.status (string_bytes lines.text)) }
+    requires held { HoldsAll files.now.held.now files.now.transcript.now files.now.declaration.now
+        files.now.witness.now }
+    requires known { KnowsJudged outcome.now (came_of files.now.transcript.now) (audit_head outcome.now) }
+    ensures { IfOk result (λ lines. PrintsJson torn files.now.transcript.now files.now.declaration.now
+        files.now.witness.now outcome.now lines.status (string_bytes lines.text)) }
 {
-    let mut told = opened_object(alloc, torn, transcript, declaration, witness, held, outcome)?;
+    let mut told = opened_object(alloc, torn, files, outcome)?;
     let status = tell_outcome(alloc, &mut told, outcome)?;
     Ok(Lines {
         text: told.into_line()?,
@@ -118,27 +114,18 @@ fn lines_of<R>(
 fn opened_object<R>(
     alloc: Global,
     torn: Option<u64>,
-    transcript: &Input<R>,
-    declaration: &Input<R>,
-    witness: &Input<R>,
-    held: &Held,
+    files: &ReadFiles<R>,
     outcome: &Result<Audited, AuditFault>,
 ) -> Result<JsonObject, AllocError>
-    requires { HoldsAll held.now transcript.now declaration.now witness.now }
+    requires { HoldsAll files.now.held.now files.now.transcript.now files.now.declaration.now
+        files.now.witness.now }
     ensures { IfOk result (λ told. members_of told
-        ≡ opened (check_files torn (audit_head outcome.now) transcript.now declaration.now witness.now)) }
+        ≡ opened (check_files torn (audit_head outcome.now) files.now.transcript.now files.now.declaration.now
+        files.now.witness.now)) }
 {
     match outcome {
-        Ok(audited) => open_files(
-            alloc,
-            torn,
-            transcript,
-            declaration,
-            witness,
-            held,
-            &audited.transcript.head,
-        ),
-        Err(_) => open_files(alloc, torn, transcript, declaration, witness, held, &None),
+        Ok(audited) => open_files(alloc, torn, files, &audited.transcript.head),
+        Err(_) => open_files(alloc, torn, files, &None),
     }
 }
 
@@ -146,21 +133,31 @@ fn opened_object<R>(
 pub fn open_files<R>(
     alloc: Global,
     torn: Option<u64>,
-    transcript: &Input<R>,
-    declaration: &Input<R>,
-    witness: &Input<R>,
-    held: &Held,
+    files: &ReadFiles<R>,
     known: &Option<Head>,
 ) -> Result<JsonObject, AllocError>
-    requires { HoldsAll held.now transcript.now declaration.now witness.now }
+    requires { HoldsAll files.now.held.now files.now.transcript.now files.now.declaration.now
+        files.now.witness.now }
     ensures { IfOk result (λ told. members_of told
-        ≡ opened (check_files torn known.now transcript.now declaration.now witness.now)) }
+        ≡ opened (check_files torn known.now files.now.transcript.now files.now.declaration.now
+        files.now.witness.now)) }
 {
-    let mut files = JsonList::new(alloc);
-    files.push_object(transcript_object(alloc, torn, transcript, &held.transcript, known)?)?;
-    files.push_object(read_object(alloc, "declaration", declaration, &held.declaration)?)?;
-    files.push_object(read_object(alloc, "witness", witness, &held.witness)?)?;
-    open_object(alloc, files)
+    let mut told = JsonList::new(alloc);
+    told.push_object(transcript_object(
+        alloc,
+        torn,
+        files.transcript,
+        &files.held.transcript,
+        known,
+    )?)?;
+    told.push_object(read_object(
+        alloc,
+        "declaration",
+        files.declaration,
+        &files.held.declaration,
+    )?)?;
+    told.push_object(read_object(alloc, "witness", files.witness, &files.held.witness)?)?;
+    open_object(alloc, told)
 }
 
 /// What is told of a transcript that was read, whose bytes are held, and this head.

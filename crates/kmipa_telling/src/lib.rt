@@ -42,10 +42,10 @@ mod unfit_claims;
 mod unfit_lines;
 mod unfit_phrases;
 
-pub use claims::calls_list;
+pub use claims::{calls_list, tell_meaning};
 pub use explained::Explained;
 pub use explained_json::explain_json;
-pub use explaining::explain_run;
+pub use explaining::{explain_run, explanation_lines};
 pub use faults::{fault_told, fault_told_lines, tell_fault_told};
 pub use json::{VERSION, check_json, open_object, read_object, transcript_object};
 pub use meaning::{FaultMeaning, FaultTold};
