@@ -1,6 +1,6 @@
 -- Calls that are plain, those that aren't, and what giving up says of them.
-use Rattle.std.proofs.Common.{◌≡◌, inl, inr, ℕ, ℤ, Bool, true, false, List, [], ◌∷◌, ◌++◌, Option, Some, None, Ok, ◌<◌, ◌≤◌, length, refl, sym, ap, subst, ◌∙◌}
-use Rattle.std.specs.Prelude.{not, is_some, String}
+use Rattle.std.proofs.Common.{◌≡◌, inl, inr, ℕ, ℤ, pos, Bool, true, false, List, [], ◌∷◌, ◌++◌, Option, Some, None, Ok, ◌<◌, ◌≤◌, length, refl, sym, ap, subst, ◌∙◌}
+use Rattle.std.specs.Prelude.{map, not, is_some, String, Vec}
 use Rattle.std.specs.String.{string_bytes}
 use Rattle.std.specs.declared.alloc.Global.{Global}
 use Rattle.kmipa_record.specs.Marks.{AreRecorded, MarkOf}
@@ -19,11 +19,11 @@ use Rattle.kmipa_orders.specs.Found.{Finds, FindsIn, HasDecided, stopped, enough
 use Rattle.kmipa_orders.specs.Plain.{ArePlain, IsForced}
 use Rattle.kmipa_orders.specs.declared.found.Found.{Found}
 use Rattle.kmipa_orders.specs.Reached.{HaveSteps, TellsReached}
-use Rattle.kmipa_orders.specs.declared.found.Found.TheVariants.{GaveUp, Refuted, Impossible, OutOfTime}
+use Rattle.kmipa_orders.specs.declared.found.Found.TheVariants.{Yes, GaveUp, Refuted, Impossible, OutOfTime}
 use Rattle.kmipa_orders.specs.declared.stuck.Reached.{Reached}
 use Rattle.kmipa_searches.specs.Searches.{SearchStops, SearchesRecords}
 use Rattle.kmipa_searches.specs.declared.searched.Searched.{Searched}
-use Rattle.kmipa_searches.specs.Deciding.{AreUnplain, DecidesRecords, IsDecidedUnder, IsPlain, IsOfPlain, IsSaid, TellsDecision, TellsGivingUp, TellsPlace}
+use Rattle.kmipa_searches.specs.Deciding.{AreUnplain, DecidesOf, DecidesRecords, IsDecidedUnder, IsPlain, IsOfPlain, IsSaid, TellsDecision, TellsGivingUp, TellsObjects, TellsPlace, given_up_steps}
 use Rattle.kmipa_searches.specs.declared.judged.Decision.{Decision}
 use Rattle.kmipa_searches.specs.declared.judged.Decision.TheVariants as decision
 
@@ -84,7 +84,7 @@ decided_said g calls budget count (decision.Tolerant seconds) under decided = (d
 decided_said g calls budget count decision.Births under decided = (decided, under)
 decided_said g calls budget count (decision.UsedUp steps) under decided = absurd under
 decided_said g calls budget count (decision.NotPlain numbers) under decided = absurd under
-decided_said g calls budget count (decision.OneObject object) under decided = absurd under
+decided_said g calls budget count (decision.Objects objects) under decided = absurd under
 decided_said g calls budget count decision.Impossible under decided = absurd under
 decided_said g calls budget count (decision.OutOfTime seconds) under decided = absurd under
 
@@ -92,14 +92,14 @@ module _ (marks : List MarkOf) (g : GrantsOf) (calls : List CallOf) (budget coun
   pub early_decides : (said : Decision) → IsDecidedUnder g said → count < budget → TellsDecision marks g budget count (Ok said)
   early_decides said under left = (calls, are, decided_said g calls budget count said under (stopped plain.0 plain.1 left))
 
-  pub forced_decides : (said : Decision) → IsDecidedUnder g said → AreRecorded marks → length calls ≤ budget → TellsForced marks (Ok true) → TellsDecision marks g budget count (Ok said)
+  pub forced_decides : (said : Decision) → IsDecidedUnder g said → AreRecorded marks → length calls ≤ budget → TellsForced marks (pos 0) (Ok true) → TellsDecision marks g budget count (Ok said)
   forced_decides said under recorded few told =
-      (calls, are, decided_said g calls budget count said under (one_by_one (subst IsForced (same_calls marks told.0 calls recorded told.1 are) told.2) few))
+      (calls, are, decided_said g calls budget count said under (one_by_one (subst (IsForced (pos 0)) (same_calls marks told.0 calls recorded told.1 are) told.2) few))
 
-  pub unforced_undecided : AreRecorded marks → budget ≤ count → TellsForced marks (Ok false) → TellsDecision marks g budget count (Ok (decision.UsedUp budget))
+  pub unforced_undecided : AreRecorded marks → budget ≤ count → TellsForced marks (pos 0) (Ok false) → TellsDecision marks g budget count (Ok (decision.UsedUp budget))
   unforced_undecided recorded spent told =
       let same = same_calls marks calls told.0 recorded are told.1 in
-      (calls, are, (plain, spent, λ f. absurd (told.2 (subst IsForced same f)), refl))
+      (calls, are, (plain, spent, λ f. absurd (told.2 (subst (IsForced (pos 0)) same f)), refl))
 
 -- what is said of plain calls is said of steps
 decided_steps : (calls : List CallOf) (budget count : ℕ) → HasDecided calls budget count → (steps : List StepOf) × ArePlain calls steps
@@ -135,7 +135,7 @@ decided_means marks declared budget count said recorded finds tells = (
 pub memory_stops : (marks : List MarkOf) (fault : CheckFault) → fault ≡ Memory → SearchStops marks fault
 memory_stops marks fault is = let P : CheckFault → Type 0 = λ f. SearchStops marks f in subst P (sym is) tt
 
-pub given_up_told : (marks : List MarkOf) (declared : DeclarationOf) (seconds budget : ℕ) (asked : Bool) (searched : Searched) → SearchesRecords marks declared seconds budget asked (Ok searched)
+given_up_told : (marks : List MarkOf) (declared : DeclarationOf) (seconds budget : ℕ) (asked : Bool) (searched : Searched) → SearchesRecords marks declared seconds budget asked (Ok searched)
     → (count : ℕ) (said : Decision) (place : Option Reached) → AreRecorded marks → searched.found ≡ GaveUp count → TellsDecision marks (grants_declared declared) budget count (Ok said)
     → TellsPlace marks declared (Some said) place
     → DecidesRecords marks declared seconds budget asked (Ok (record { searched = searched; decision = Some said; reached = place }))
@@ -172,34 +172,34 @@ plain_place marks declared budget count (decision.NotPlain numbers) (Some reache
 plain_place marks declared budget count (decision.NotPlain numbers) None recorded tells p = λ have.
     let P : List CallOf → Type 0 = λ cs. ArePlain cs have.2.0 in
     tells.2.1 (no_unplain tells.0 have.2.0 numbers.items (subst P (same_calls marks have.0 tells.0 recorded have.1 tells.1) have.2.1) tells.2.0)
-plain_place marks declared budget count (decision.OneObject other) place recorded tells p = absurd tells.2
+plain_place marks declared budget count (decision.Objects others) place recorded tells p = absurd tells.2
 plain_place marks declared budget count decision.Impossible place recorded tells p = absurd tells.2
 plain_place marks declared budget count (decision.OutOfTime seconds) place recorded tells p = absurd tells.2
 
-object_place : (marks : List MarkOf) (declared : DeclarationOf) (object : String Global) (place : Option Reached) → TellsPlainPlace marks declared place
-    → TellsPlace marks declared (Some (decision.OneObject object)) place
-object_place marks declared object (Some reached) p = p
-object_place marks declared object None p = p
+objects_place : (marks : List MarkOf) (declared : DeclarationOf) (objects : Vec (String Global) Global) (place : Option Reached) → TellsPlainPlace marks declared place
+    → TellsPlace marks declared (Some (decision.Objects objects)) place
+objects_place marks declared objects (Some reached) p = p
+objects_place marks declared objects None p = p
 
 time_place : (marks : List MarkOf) (declared : DeclarationOf) (after : ℕ) (place : Option Reached) → TellsPlainPlace marks declared place
     → TellsPlace marks declared (Some (decision.OutOfTime after)) place
 time_place marks declared after (Some reached) p = p
 time_place marks declared after None p = p
 
-pub refuted_told : (marks : List MarkOf) (declared : DeclarationOf) (seconds budget : ℕ) (asked : Bool) (searched : Searched) → SearchesRecords marks declared seconds budget asked (Ok searched)
-    → (count : ℕ) (object named : String Global) (said : Decision) (place : Option Reached) → AreRecorded marks → searched.found ≡ Refuted count object → string_bytes named ≡ string_bytes object
+refuted_told : (marks : List MarkOf) (declared : DeclarationOf) (seconds budget : ℕ) (asked : Bool) (searched : Searched) → SearchesRecords marks declared seconds budget asked (Ok searched)
+    → (count : ℕ) (objects named : Vec (String Global) Global) (said : Decision) (place : Option Reached) → AreRecorded marks → searched.found ≡ Refuted count objects → map string_bytes named.items ≡ map string_bytes objects.items
     → TellsDecision marks (grants_declared declared) budget count (Ok said) → TellsPlace marks declared (Some said) place
-    → DecidesRecords marks declared seconds budget asked (Ok (record { searched = searched; decision = Some (decision.OneObject named); reached = place }))
-refuted_told marks declared seconds budget asked searched searches count object named said place recorded is copied tells stuck =
+    → DecidesRecords marks declared seconds budget asked (Ok (record { searched = searched; decision = Some (decision.Objects named); reached = place }))
+refuted_told marks declared seconds budget asked searched searches count objects named said place recorded is copied tells stuck =
     let F : Found → Type 0 = λ f. FindsIn seconds marks declared budget f in
-    let T : Found → Type 0 = λ f. TellsGivingUp marks declared budget f (Some (decision.OneObject named)) in
-    (searches, subst T (sym is) (copied, (subst F is searches.1).2), object_place marks declared named place (plain_place marks declared budget count said place recorded tells stuck))
+    let T : Found → Type 0 = λ f. TellsGivingUp marks declared budget f (Some (decision.Objects named)) in
+    (searches, subst T (sym is) (copied, (subst F is searches.1).2), objects_place marks declared named place (plain_place marks declared budget count said place recorded tells stuck))
 
 call_place : (marks : List MarkOf) (declared : DeclarationOf) (place : Option Reached) → TellsPlainPlace marks declared place → TellsPlace marks declared (Some decision.Impossible) place
 call_place marks declared (Some reached) p = p
 call_place marks declared None p = p
 
-pub impossible_told : (marks : List MarkOf) (declared : DeclarationOf) (seconds budget : ℕ) (asked : Bool) (searched : Searched) → SearchesRecords marks declared seconds budget asked (Ok searched)
+impossible_told : (marks : List MarkOf) (declared : DeclarationOf) (seconds budget : ℕ) (asked : Bool) (searched : Searched) → SearchesRecords marks declared seconds budget asked (Ok searched)
     → (count call : ℕ) (said : Decision) (place : Option Reached) → AreRecorded marks → searched.found ≡ Impossible count call
     → TellsDecision marks (grants_declared declared) budget count (Ok said) → TellsPlace marks declared (Some said) place
     → DecidesRecords marks declared seconds budget asked (Ok (record { searched = searched; decision = Some decision.Impossible; reached = place }))
@@ -210,10 +210,48 @@ impossible_told marks declared seconds budget asked searched searches count call
 
 -- ---- the seconds of a search
 
-pub time_told : (marks : List MarkOf) (declared : DeclarationOf) (seconds budget : ℕ) (asked : Bool) (searched : Searched) → SearchesRecords marks declared seconds budget asked (Ok searched)
+time_told : (marks : List MarkOf) (declared : DeclarationOf) (seconds budget : ℕ) (asked : Bool) (searched : Searched) → SearchesRecords marks declared seconds budget asked (Ok searched)
     → (count after : ℕ) (said : Decision) (place : Option Reached) → AreRecorded marks → searched.found ≡ OutOfTime count after
     → TellsDecision marks (grants_declared declared) budget count (Ok said) → TellsPlace marks declared (Some said) place
     → DecidesRecords marks declared seconds budget asked (Ok (record { searched = searched; decision = Some (decision.OutOfTime after); reached = place }))
 time_told marks declared seconds budget asked searched searches count after said place recorded is tells stuck =
     let T : Found → Type 0 = λ f. TellsGivingUp marks declared budget f (Some (decision.OutOfTime after)) in
     (searches, subst T (sym is) refl, time_place marks declared after place (plain_place marks declared budget count said place recorded tells stuck))
+
+-- ---- any giving up
+
+-- what is decided of it is told
+module _ (marks : List MarkOf) (declared : DeclarationOf) (seconds budget : ℕ) (asked : Bool) (searched : Searched) (searches : SearchesRecords marks declared seconds budget asked (Ok searched))
+    (count : ℕ) (said : Decision) (place : Option Reached) (recorded : AreRecorded marks) (tells : TellsDecision marks (grants_declared declared) budget count (Ok said)) (stuck : TellsPlace marks declared (Some said) place) where
+  abbrev ToldSo : Decision → Type 0
+  ToldSo verdict = DecidesRecords marks declared seconds budget asked (Ok (record { searched = searched; decision = Some verdict; reached = place }))
+
+  said_at : (n : ℕ) → Some n ≡ Some count → TellsDecision marks (grants_declared declared) budget n (Ok said)
+  said_at n is =
+      let e : count ≡ n = cc in
+      let D : ℕ → Type 0 = λ k. TellsDecision marks (grants_declared declared) budget k (Ok said) in
+      subst D e tells
+
+  objects_told : (n : ℕ) (objects : Vec (String Global) Global) (verdict : Decision) → searched.found ≡ Refuted n objects → Some n ≡ Some count → TellsObjects objects.items (Some verdict) → ToldSo verdict
+  objects_told n objects decision.Decided is steps named = absurd named
+  objects_told n objects (decision.UsedUp spent) is steps named = absurd named
+  objects_told n objects (decision.NotPlain numbers) is steps named = absurd named
+  objects_told n objects (decision.Tolerant after) is steps named = absurd named
+  objects_told n objects decision.Births is steps named = absurd named
+  objects_told n objects decision.Impossible is steps named = absurd named
+  objects_told n objects (decision.OutOfTime after) is steps named = absurd named
+  objects_told n objects (decision.Objects others) is steps named =
+      refuted_told marks declared seconds budget asked searched searches n objects others said place recorded is named (said_at n steps) stuck
+
+  told_by : (found : Found) (verdict : Decision) → searched.found ≡ found → given_up_steps found ≡ Some count → DecidesOf found said verdict → ToldSo verdict
+  told_by (Yes witness n) verdict is steps decides = absurd cc
+  told_by (GaveUp n) verdict is steps decides =
+      subst ToldSo (sym decides) (given_up_told marks declared seconds budget asked searched searches n said place recorded is (said_at n steps) stuck)
+  told_by (Refuted n objects) verdict is steps decides = objects_told n objects verdict is steps decides
+  told_by (Impossible n call) verdict is steps decides =
+      subst ToldSo (sym decides) (impossible_told marks declared seconds budget asked searched searches n call said place recorded is (said_at n steps) stuck)
+  told_by (OutOfTime n after) verdict is steps decides =
+      subst ToldSo (sym decides) (time_told marks declared seconds budget asked searched searches n after said place recorded is (said_at n steps) stuck)
+
+  pub judged_told : (verdict : Decision) → given_up_steps searched.found ≡ Some count → DecidesOf searched.found said verdict → ToldSo verdict
+  judged_told verdict steps decides = told_by searched.found verdict refl steps decides

@@ -1,6 +1,11 @@
 -- What is told in JSON of a search, and made of it.
-use Rattle.std.proofs.Common.{◌≡◌, ◌⊎◌, inl, inr, List, [], ℕ, Bool, Option, Result, Ok, Err, sym, subst, ◌∙◌}
-use Rattle.std.specs.Prelude.{IfOk, IsOkAnd, string_bytes}
+use Rattle.std.proofs.Common.{◌≡◌, ◌⊎◌, inl, inr, List, [], ◌∷◌, ◌++◌, ◌<◌, ◌+◌, ℕ, suc, length, take, get_or, Bool, Option, Result, Ok, Err, refl, sym, ap, subst, ◌∙◌}
+use Rattle.std.proofs.Math.Seq.{take-suc}
+use native.Mathlib.Omega.{arith}
+use Rattle.std.specs.Prelude.{IfOk, IsOkAnd, String, string_bytes}
+use Rattle.std.specs.declared.alloc.Global.{Global}
+use Rattle.serde_json.specs.Data.{Items, item, string}
+use Rattle.kmipa_json.specs.Told.{with_item}
 use Rattle.std.specs.declared.alloc.AllocError.{AllocError}
 use Rattle.kmipa_ttlv.specs.Input.{came_of}
 use Rattle.kmipa_ttlv.specs.declared.input.Input.{Input}
@@ -9,7 +14,7 @@ use Rattle.kmipa_check.specs.Audits.{AreAccepted}
 use Rattle.kmipa_jobs.specs.Statuses.{IsSilent}
 use Rattle.kmipa_jobs.specs.declared.status.Status.{Status}
 use Rattle.kmipa_jobs.specs.declared.status.Status.TheVariants as status
-use Rattle.kmipa_searches.specs.JsonSearches.{BothEnded, DecidesInputs, PrintsJsonSearch}
+use Rattle.kmipa_searches.specs.JsonSearches.{BothEnded, DecidesInputs, PrintsJsonSearch, object_items}
 use Rattle.kmipa_searches.specs.declared.json_search.Answer.{Answer}
 use Rattle.kmipa_telling.specs.declared.meaning.FaultTold.{FaultTold}
 use Rattle.kmipa_searches.specs.declared.judged.Judged.{Judged}
@@ -51,3 +56,18 @@ pub printed_search : {R : Type 0} (torn : Option ℕ) (t d : Input R) (seconds b
     → ToldSearch torn t d seconds budget asked said lines file ⊎ (IsSilent said lines × (file ≡ []))
 printed_search torn t d seconds budget asked outcome said lines file decides (inl prints) = inl (outcome, decides, prints)
 printed_search torn t d seconds budget asked outcome said lines file decides (inr silent) = inr silent
+
+-- ---- objects
+
+object_behind : (objects : List (String Global)) (object : String Global) → object_items (objects ++ object ∷ []) ≡ with_item (string (string_bytes object)) (object_items objects)
+object_behind [] object = refl
+object_behind (o ∷ objects) object = ap (item (string (string_bytes o))) (object_behind objects object)
+
+-- what a turn of the loop over objects keeps
+pub one_object_more : (objects : List (String Global)) (i : ℕ) (object : String Global) (before after : Items) → i < length objects → before ≡ object_items (take i objects)
+    → object ≡ get_or objects i object → after ≡ with_item (string (string_bytes object)) before → after ≡ object_items (take (i + 1) objects)
+one_object_more objects i object before after within told is pushed =
+    let next : suc i ≡ i + 1 = omega arith in
+    let taken = sym (take-suc objects i object within) ∙ ap (λ n. take n objects) next in
+    pushed ∙ ap (λ (o : String Global). with_item (string (string_bytes o)) before) is ∙ ap (with_item (string (string_bytes (get_or objects i object)))) told
+    ∙ sym (object_behind (take i objects) (get_or objects i object)) ∙ ap object_items taken

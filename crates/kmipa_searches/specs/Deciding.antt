@@ -1,5 +1,5 @@
 -- What a search says by giving up: that no order explains the transcript, or nothing, and then why.
-use Rattle.std.specs.Prelude.{◌≡◌, ◌≢◌, ◌<◌, ◌≤◌, ◌⊎◌, ℕ, ℤ, pos, List, [], ◌∷◌, length, Bool, Option, Some, None, Result, Ok, Err, String}
+use Rattle.std.specs.Prelude.{◌≡◌, ◌≢◌, ◌<◌, ◌≤◌, ◌⊎◌, ℕ, ℤ, pos, List, [], ◌∷◌, length, map, Bool, Option, Some, None, Result, Ok, Err, String}
 use Rattle.std.specs.String.{string_bytes}
 use Rattle.std.specs.declared.alloc.Global.{Global}
 use Rattle.kmipa_msgs.specs.Messages.{ResponseOf}
@@ -48,21 +48,21 @@ IsDecidedUnder g (decision.Tolerant seconds) = (seconds ≡ g.tolerance) × ¬ (
 IsDecidedUnder g decision.Births = (g.tolerance ≡ pos 0) × ¬ (GrantsNothing g)
 IsDecidedUnder g (decision.UsedUp steps) = ⊥
 IsDecidedUnder g (decision.NotPlain numbers) = ⊥
-IsDecidedUnder g (decision.OneObject object) = ⊥
+IsDecidedUnder g (decision.Objects objects) = ⊥
 IsDecidedUnder g decision.Impossible = ⊥
 IsDecidedUnder g (decision.OutOfTime seconds) = ⊥
 
 -- What is said of calls that were given up after so many steps of a budget: that the search has decided; or that it hasn't, since the calls are
--- plain and no steps were left, too few even where the calls are forced, or since these aren't plain; or that it had, were moments stamps. Of one
--- object or one call nothing is said, and nothing of seconds that are over.
+-- plain and no steps were left, too few even where the calls are forced, or since these aren't plain; or that it had, were moments stamps. Of
+-- objects or one call nothing is said, and nothing of seconds that are over.
 abbrev pub IsSaid : GrantsOf → List CallOf → ℕ → ℕ → Decision → Type 0
 IsSaid g calls budget count decision.Decided = HasDecided calls budget count × IsDecidedUnder g decision.Decided
 IsSaid g calls budget count (decision.Tolerant seconds) = HasDecided calls budget count × IsDecidedUnder g (decision.Tolerant seconds)
 IsSaid g calls budget count decision.Births = HasDecided calls budget count × IsDecidedUnder g decision.Births
 IsSaid g calls budget count (decision.UsedUp steps) = ((plain : List StepOf) × ArePlain calls plain) × (budget ≤ count)
-    × (IsForced calls → budget < length calls) × (steps ≡ budget)
+    × (IsForced (pos 0) calls → budget < length calls) × (steps ≡ budget)
 IsSaid g calls budget count (decision.NotPlain numbers) = AreUnplain calls numbers.items × (numbers.items ≢ [])
-IsSaid g calls budget count (decision.OneObject object) = ⊥
+IsSaid g calls budget count (decision.Objects objects) = ⊥
 IsSaid g calls budget count decision.Impossible = ⊥
 IsSaid g calls budget count (decision.OutOfTime seconds) = ⊥
 
@@ -73,27 +73,44 @@ TellsDecision marks g budget count (Err fault) = SearchStops marks fault
 
 -- ---- what is searched
 
--- it is said that one object refutes the transcript, which has this identifier
-abbrev pub TellsObject : String Global → Option Decision → Type 0
-TellsObject object None = ⊥
-TellsObject object (Some decision.Decided) = ⊥
-TellsObject object (Some (decision.UsedUp steps)) = ⊥
-TellsObject object (Some (decision.NotPlain numbers)) = ⊥
-TellsObject object (Some (decision.Tolerant seconds)) = ⊥
-TellsObject object (Some decision.Births) = ⊥
-TellsObject object (Some decision.Impossible) = ⊥
-TellsObject object (Some (decision.OutOfTime seconds)) = ⊥
-TellsObject object (Some (decision.OneObject named)) = string_bytes named ≡ string_bytes object
+-- it is said that some objects refute the transcript, which have these identifiers
+abbrev pub TellsObjects : List (String Global) → Option Decision → Type 0
+TellsObjects objects None = ⊥
+TellsObjects objects (Some decision.Decided) = ⊥
+TellsObjects objects (Some (decision.UsedUp steps)) = ⊥
+TellsObjects objects (Some (decision.NotPlain numbers)) = ⊥
+TellsObjects objects (Some (decision.Tolerant seconds)) = ⊥
+TellsObjects objects (Some decision.Births) = ⊥
+TellsObjects objects (Some decision.Impossible) = ⊥
+TellsObjects objects (Some (decision.OutOfTime seconds)) = ⊥
+TellsObjects objects (Some (decision.Objects named)) = map string_bytes named.items ≡ map string_bytes objects
 
--- Of a yes nothing is said. Of a giving up something is; and where it is said to be decided, no order explains the transcript. Where one object
--- refutes the transcript, that is said, and no order explains it; and where the answer of one call is impossible over every inventory, no order
+-- the steps of a search that found no witness
+abbrev pub given_up_steps : Found → Option ℕ
+given_up_steps (Yes witness count) = None
+given_up_steps (GaveUp count) = Some count
+given_up_steps (Refuted count objects) = Some count
+given_up_steps (Impossible count number) = Some count
+given_up_steps (OutOfTime count after) = Some count
+
+-- What is decided by what a search found, where this is said of the calls: what is said of them; or what was found says more, that some objects
+-- or one call refute them, or that the seconds are over.
+abbrev pub DecidesOf : Found → Decision → Decision → Type 0
+DecidesOf (Yes witness count) said decided = decided ≡ said
+DecidesOf (GaveUp count) said decided = decided ≡ said
+DecidesOf (Refuted count objects) said decided = TellsObjects objects.items (Some decided)
+DecidesOf (Impossible count number) said decided = decided ≡ decision.Impossible
+DecidesOf (OutOfTime count after) said decided = decided ≡ decision.OutOfTime after
+
+-- Of a yes nothing is said. Of a giving up something is; and where it is said to be decided, no order explains the transcript. Where some objects
+-- refute the transcript, that is said, and no order explains it; and where the answer of one call is impossible over every inventory, no order
 -- explains it. Where the seconds of the search are over, that is said, and how many they are.
 abbrev pub TellsGivingUp : List MarkOf → DeclarationOf → ℕ → Found → Option Decision → Type 0
 TellsGivingUp marks declared budget (Yes witness count) said = said ≡ None
 TellsGivingUp marks declared budget (GaveUp count) None = ⊥
 TellsGivingUp marks declared budget (GaveUp count) (Some said) = TellsDecision marks (grants_declared declared) budget count (Ok said)
     × (said ≡ decision.Decided → IsExplained marks declared → ⊥)
-TellsGivingUp marks declared budget (Refuted count object) said = TellsObject object said × (IsExplained marks declared → ⊥)
+TellsGivingUp marks declared budget (Refuted count objects) said = TellsObjects objects.items said × (IsExplained marks declared → ⊥)
 TellsGivingUp marks declared budget (Impossible count number) said = (said ≡ Some decision.Impossible) × (IsExplained marks declared → ⊥)
 TellsGivingUp marks declared budget (OutOfTime count after) said = said ≡ Some (decision.OutOfTime after)
 
@@ -104,7 +121,7 @@ IsOfPlain marks (Some (decision.UsedUp steps)) = Unit {0}
 IsOfPlain marks (Some (decision.NotPlain numbers)) = ⊥
 IsOfPlain marks (Some (decision.Tolerant seconds)) = Unit {0}
 IsOfPlain marks (Some decision.Births) = Unit {0}
-IsOfPlain marks (Some (decision.OneObject object)) = HaveSteps marks
+IsOfPlain marks (Some (decision.Objects objects)) = HaveSteps marks
 IsOfPlain marks (Some decision.Impossible) = HaveSteps marks
 IsOfPlain marks (Some (decision.OutOfTime seconds)) = HaveSteps marks
 IsOfPlain marks None = ⊥

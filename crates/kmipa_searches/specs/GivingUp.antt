@@ -1,7 +1,8 @@
 -- What `search --explain` makes and prints: the lines of a search, and behind those of a giving up whether it has decided, and its deepest place.
-use Rattle.std.specs.Prelude.{◌≡◌, ℕ, List, [], ◌∷◌, ◌++◌, codes, Option, Some, None, Result, Ok, Err}
+use Rattle.std.specs.Prelude.{◌≡◌, ℕ, if◌then◌else◌, nat_lt, List, [], ◌∷◌, ◌++◌, codes, flat_map, length, Option, Some, None, Result, Ok, Err, String}
 use Rattle.std.specs.Fmt.{decimal, signed_decimal}
 use Rattle.std.specs.String.{string_bytes}
+use Rattle.std.specs.declared.alloc.Global.{Global}
 use Rattle.kmipa_runs.specs.Lines.{line}
 use Rattle.kmipa_searches.specs.Searches.{found_status, searched_text, Makes}
 use Rattle.kmipa_runs.specs.Shown.{quoted}
@@ -14,12 +15,23 @@ use Rattle.kmipa_searches.specs.declared.judged.Decision.{Decision}
 use Rattle.kmipa_searches.specs.declared.judged.Decision.TheVariants as decision
 use Rattle.kmipa_searches.specs.declared.judged.Judged.{Judged}
 
+-- an identifier in quotes behind a blank
+abbrev pub quoted_behind : String Global → List ℕ
+quoted_behind id = 32 ∷ quoted (string_bytes id)
+
+abbrev pub objects_word : ℕ → List ℕ
+objects_word count = if nat_lt 1 count then codes "objects" else codes "object"
+
+-- objects by their identifiers
+abbrev pub objects_text : List (String Global) → List ℕ
+objects_text objects = objects_word (length objects) ++ flat_map quoted_behind objects
+
 -- the line of what giving up says
 abbrev pub decision_line : Decision → List ℕ
 decision_line decision.Decided = line (codes "decided: no order explains every answer" ∷ [])
 decision_line (decision.UsedUp steps) = line (codes "not decided: the budget of " ∷ decimal steps ∷ codes " steps is used up" ∷ [])
 decision_line decision.Impossible = line (codes "decided: no order explains every answer" ∷ [])
-decision_line (decision.OneObject object) = line (codes "decided: no order explains the answers about object " ∷ quoted (string_bytes object) ∷ [])
+decision_line (decision.Objects objects) = line (codes "decided: no order explains the answers about " ∷ objects_text objects.items ∷ [])
 decision_line (decision.NotPlain numbers) = line (codes "not decided: these are not plain: " ∷ calls_text numbers.items ∷ [])
 decision_line (decision.OutOfTime seconds) = line (codes "not decided: " ∷ decimal seconds ∷ codes " seconds are over" ∷ [])
 decision_line (decision.Tolerant seconds) = line (codes "not decided: moments within " ∷ signed_decimal seconds ∷ codes " seconds of their stamps were not all tried" ∷ [])

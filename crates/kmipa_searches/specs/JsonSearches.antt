@@ -1,6 +1,7 @@
 -- What is told in JSON of a search, and made of it.
-use Rattle.std.specs.Prelude.{◌≡◌, ℕ, List, [], Bool, true, false, IsTrue, codes, Option, Some, None, Result, Ok, Err}
+use Rattle.std.specs.Prelude.{◌≡◌, ℕ, List, [], ◌∷◌, String, Bool, true, false, IsTrue, codes, Option, Some, None, Result, Ok, Err}
 use Rattle.std.specs.String.{string_bytes}
+use Rattle.std.specs.declared.alloc.Global.{Global}
 use Rattle.serde_json.specs.Data.{Members, Items, no_items, item, object, array, boolean, string, put}
 use Rattle.kmipa_json.specs.Told.{count, file_members, integer, line_of, with_item}
 use Rattle.kmipa_ttlv.specs.Input.{came_of, is_ended, is_failed, IsFileOf}
@@ -37,13 +38,22 @@ DecidesInputs t d seconds budget asked outcome = ((a b : List ℕ) → IsFileOf 
 
 -- ---- what is told
 
--- whether giving up has decided, and by which object; if not, the budget that was used up, the calls that aren't plain, the tolerance, the
+-- objects by their identifiers: one alone, or a list of them
+abbrev pub object_items : List (String Global) → Items
+object_items [] = no_items
+object_items (id ∷ objects) = item (string (string_bytes id)) (object_items objects)
+
+abbrev pub objects_members : List (String Global) → Members → Members
+objects_members (id ∷ []) told = put (codes "object") (string (string_bytes id)) told
+objects_members objects told = put (codes "objects") (array (object_items objects)) told
+
+-- whether giving up has decided, and by which objects; if not, the budget that was used up, the calls that aren't plain, the tolerance, the
 -- seconds that are over, or that there may be births
 abbrev pub decision_members : Decision → Members → Members
 decision_members decision.Decided told = put (codes "decided") (boolean true) told
 decision_members (decision.UsedUp steps) told = put (codes "budget") (count steps) (put (codes "decided") (boolean false) told)
 decision_members decision.Impossible told = put (codes "decided") (boolean true) told
-decision_members (decision.OneObject named) told = put (codes "object") (string (string_bytes named)) (put (codes "decided") (boolean true) told)
+decision_members (decision.Objects objects) told = objects_members objects.items (put (codes "decided") (boolean true) told)
 decision_members (decision.NotPlain numbers) told = put (codes "not_plain") (array (call_items numbers.items)) (put (codes "decided") (boolean false) told)
 decision_members (decision.OutOfTime seconds) told = put (codes "seconds") (count seconds) (put (codes "decided") (boolean false) told)
 decision_members (decision.Tolerant seconds) told = put (codes "tolerance") (integer seconds) (put (codes "decided") (boolean false) told)
@@ -65,7 +75,7 @@ steps_members name steps told = put (codes "steps") (count steps) (verdict_named
 abbrev pub told_found : Found → Option Tally → Option Decision → Option Reached → Members → Members
 told_found (Yes witness steps) tally said reached told = told_tally tally (steps_members (codes "yes") steps told)
 told_found (GaveUp steps) tally said reached told = told_reached reached (told_decision said (steps_members (codes "gave up") steps told))
-told_found (Refuted steps named) tally said reached told = told_reached reached (told_decision said (steps_members (codes "gave up") steps told))
+told_found (Refuted steps objects) tally said reached told = told_reached reached (told_decision said (steps_members (codes "gave up") steps told))
 told_found (Impossible steps number) tally said reached told = told_reached reached (told_decision said (steps_members (codes "gave up") steps told))
 told_found (OutOfTime steps after) tally said reached told = told_reached reached (told_decision said (steps_members (codes "gave up") steps told))
 
@@ -79,7 +89,7 @@ found_members judged told = told_found judged.searched.found judged.searched.tal
 abbrev pub found_items : Found → List ℕ → Items → Items
 found_items (Yes witness steps) made told = with_item (object (file_members (codes "witness") made)) told
 found_items (GaveUp steps) made told = told
-found_items (Refuted steps named) made told = told
+found_items (Refuted steps objects) made told = told
 found_items (Impossible steps number) made told = told
 found_items (OutOfTime steps after) made told = told
 

@@ -8,6 +8,7 @@ use Rattle.kmipa_record.specs.Declarations.{DeclarationOf, IsDeclaration, Declar
 use Rattle.kmipa_record.specs.Witnesses.{witness_of, IsWitness}
 use Rattle.kmipa_check.specs.Audits.{AreATranscript}
 use Rattle.kmipa_check.specs.Calls.{IsFirstOutside}
+use Rattle.kmipa_check.specs.Grants.{grants_declared}
 use Rattle.kmipa_check.specs.declared.auditing.AuditFault.{AuditFault}
 use Rattle.kmipa_check.specs.declared.auditing.AuditFault.TheVariants as audit
 use Rattle.kmipa_check.specs.declared.fault.CheckFault.{CheckFault}
@@ -19,7 +20,6 @@ use Rattle.kmipa_orders.specs.declared.found.Found.TheVariants.{Yes, GaveUp, Ref
 use Rattle.kmipa_stream.specs.Counting.{TalliesSo}
 use Rattle.kmipa_stream.specs.declared.tally.Tally.{Tally}
 use Rattle.kmipa_runs.specs.Lines.{line, tally_text, PrintsFault}
-use Rattle.kmipa_searches.specs.declared.searched.Looked.{Looked}
 use Rattle.kmipa_searches.specs.declared.searched.Searched.{Searched}
 use Rattle.kmipa_jobs.specs.declared.status.Status.{Status}
 use Rattle.kmipa_jobs.specs.declared.status.Status.TheVariants as status
@@ -61,11 +61,11 @@ Makes (OutOfTime count after) made = made ≡ []
 
 -- ---- what is searched
 
--- whether the transcript of these marks is forced, where that was asked for
-abbrev pub IsForcedTold : List MarkOf → Bool → Option Bool → Type 0
-IsForcedTold marks true (Some forced) = TellsForced marks (Ok forced)
-IsForcedTold marks true None = ⊥
-IsForcedTold marks false reported = reported ≡ None
+-- whether the transcript of these marks is forced under the declaration's tolerance, where that was asked for
+abbrev pub IsForcedTold : List MarkOf → DeclarationOf → Bool → Option Bool → Type 0
+IsForcedTold marks declared true (Some forced) = TellsForced marks (grants_declared declared).tolerance (Ok forced)
+IsForcedTold marks declared true None = ⊥
+IsForcedTold marks declared false reported = reported ≡ None
 
 -- what became of the items by the witness that was found; of nothing else anything is told
 abbrev pub TalliesFound : List MarkOf → DeclarationOf → Found → Option Tally → Type 0
@@ -81,7 +81,7 @@ pub record AreSearched (searched : Searched) (t d : List ℕ) (seconds budget : 
   pub transcript : IsTranscript t marks
   pub declared : DeclarationOf
   pub declaration : IsDeclaration d declared
-  pub forced : IsForcedTold marks asked searched.forced
+  pub forced : IsForcedTold marks declared asked searched.forced
   pub found : FindsIn seconds marks declared budget searched.found
   pub tallied : TalliesFound marks declared searched.found searched.tally
 
@@ -93,14 +93,14 @@ SearchStops marks check.Memory = Unit {0}
 
 -- what a search of records answers
 abbrev pub SearchesRecords : List MarkOf → DeclarationOf → ℕ → ℕ → Bool → Result Searched CheckFault → Type 0
-SearchesRecords marks declared seconds budget asked (Ok searched) = IsForcedTold marks asked searched.forced × FindsIn seconds marks declared budget searched.found
+SearchesRecords marks declared seconds budget asked (Ok searched) = IsForcedTold marks declared asked searched.forced × FindsIn seconds marks declared budget searched.found
     × TalliesFound marks declared searched.found searched.tally
 SearchesRecords marks declared seconds budget asked (Err fault) = SearchStops marks fault
 
 -- and what is reported first
-abbrev pub TellsIfForced : List MarkOf → Bool → Result (Option Bool) CheckFault → Type 0
-TellsIfForced marks asked (Ok reported) = IsForcedTold marks asked reported
-TellsIfForced marks asked (Err fault) = SearchStops marks fault
+abbrev pub TellsIfForced : List MarkOf → DeclarationOf → Bool → Result (Option Bool) CheckFault → Type 0
+TellsIfForced marks declared asked (Ok reported) = IsForcedTold marks declared asked reported
+TellsIfForced marks declared asked (Err fault) = SearchStops marks fault
 
 -- the bytes are records with this fault
 pub record AreUnsearched (fault : CheckFault) (t d : List ℕ) : Type 0 where
@@ -121,11 +121,6 @@ SearchFails t d failed_t failed_d (audit.Check f) = AreUnsearched f t d
 abbrev pub SearchesFiles : List ℕ → List ℕ → Bool → Bool → ℕ → ℕ → Bool → Result Searched AuditFault → Type 0
 SearchesFiles t d failed_t failed_d seconds budget asked (Ok searched) = AreSearched searched t d seconds budget asked
 SearchesFiles t d failed_t failed_d seconds budget asked (Err fault) = SearchFails t d failed_t failed_d fault
-
--- what was found without what the transcript is known by
-abbrev pub searched_alone : Result Looked AuditFault → Result Searched AuditFault
-searched_alone (Ok looked) = Ok looked.searched
-searched_alone (Err fault) = Err fault
 
 -- ---- what is made and printed
 

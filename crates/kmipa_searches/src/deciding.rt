@@ -73,7 +73,7 @@ fn decide_plain(
     if calls.len() as u64 > budget {
         return Ok(Decision::UsedUp(budget));
     }
-    if is_forced(alloc, transcript)? {
+    if is_forced(alloc, transcript, 0)? {
         Ok(decided_under(grants))
     } else {
         Ok(Decision::UsedUp(budget))

@@ -1,6 +1,6 @@
 //! `search --explain`: a search that says what its giving up means, and why a message is outside.
 
-ghost use Rattle.std.specs.Prelude.{◌≡◌, ◌≢◌, ◌⊎◌, ℕ, List, [], IsTrue, IfOk, OnOk, Result, Ok, Err, string_bytes};
+ghost use Rattle.std.specs.Prelude.{◌≡◌, ◌≢◌, ◌⊎◌, ℕ, List, [], IsTrue, IfOk, OnOk, Result, Ok, Err, flat_map, string_bytes};
 ghost use Rattle.std.specs.Io.{StartsWith, appended_bytes};
 ghost use Rattle.kmipa_ttlv.specs.Input.{came_of, is_ended, is_failed, IsFileOf};
 ghost use Rattle.kmipa_check.specs.Audits.{AreAccepted};
@@ -8,10 +8,12 @@ ghost use Rattle.kmipa_runs.specs.Knowing.{Known, KnowsSeals};
 ghost use Rattle.kmipa_searches.specs.Searches.{found_status};
 ghost use Rattle.kmipa_jobs.specs.Statuses.{IsSilent};
 ghost use Rattle.kmipa_searches.specs.Deciding.{DecidesFiles};
-ghost use Rattle.kmipa_searches.specs.GivingUp.{PrintsGivingUp, decision_line, decision_text, judged_text};
+ghost use Rattle.kmipa_searches.specs.GivingUp.{PrintsGivingUp, decision_line, decision_text, judged_text, objects_text, objects_word, quoted_behind};
 
 use crate::deepest::reached_text;
-use crate::judged::{Decision, Judged, SearchOptions, judge_records};
+use crate::judged::{Decision, Judged, judge_records};
+use crate::options::SearchOptions;
+use crate::searched::FoundOutput;
 use crate::searching::{searched_lines, tell_witness};
 use kmipa_check::AuditFault;
 use kmipa_jobs::Status;
@@ -23,19 +25,17 @@ use kmipa_ttlv::Input;
 use std::alloc::{AllocError, Global};
 use std::io::Read;
 
-/// `search TRANSCRIPT DECLARATION OUT --explain`: does what `search_run` does, and appends behind the lines of a giving up one more, which
-/// tells whether the search has decided, and if not, why; and where the calls are plain, those of the deepest place that it reached. Behind the
-/// line of a message that is outside it appends those of why it is. It answers the status, and the head of a sealed transcript.
+/// `search TRANSCRIPT DECLARATION OUT --explain`: looks for a witness as it is asked for. Appends to the lines those of what was found, or of the
+/// fault that stands in their place, and behind those of a giving up one more, which tells whether the search has decided, and if not, why; and
+/// where the calls are plain, those of the deepest place that it reached. Behind the line of a message that is outside it appends those of why it
+/// is. A witness that was found is appended to what is made, as a file. It answers the status, and the head of a sealed transcript.
 pub fn explain_search_run<R: Read, W: Watch>(
     alloc: Global,
     transcript: &mut Input<R>,
     declaration: &mut Input<R>,
-    budget: u64,
-    forced: bool,
-    open: bool,
+    asked: SearchOptions,
     watch: &mut W,
-    out: &mut Vec<u8>,
-    made: &mut Vec<u8>,
+    out: &mut FoundOutput,
 ) -> Answered
     requires transcript { came_of transcript.old ≡ [] }
     requires declaration { came_of declaration.old ≡ [] }
@@ -44,35 +44,30 @@ pub fn explain_search_run<R: Read, W: Watch>(
     ensures prints { (outcome : Result Judged FaultTold)
         × ((t d : List ℕ) → IsFileOf t transcript.new → IsFileOf d declaration.new
         → DecidesFiles t d (is_failed transcript.new) (is_failed declaration.new)
-        (W.seconds watch.old) budget forced outcome)
-        × (PrintsGivingUp outcome result.status (appended_bytes out.old.items out.new.items)
-        (appended_bytes made.old.items made.new.items)
-        ⊎ (IsSilent result.status (appended_bytes out.old.items out.new.items)
-        × (appended_bytes made.old.items made.new.items ≡ []))) }
+        (W.seconds watch.old) asked.budget asked.forced outcome)
+        × (PrintsGivingUp outcome result.status (appended_bytes out.old.lines.items out.new.lines.items)
+        (appended_bytes out.old.made.items out.new.made.items)
+        ⊎ (IsSilent result.status (appended_bytes out.old.lines.items out.new.lines.items)
+        × (appended_bytes out.old.made.items out.new.made.items ≡ []))) }
     // Status 0 is answered only where the bytes that came, to the ends that were seen, are accepted with the
     // witness that is made.
     ensures accepts { result.status ≡ Status.Done
-        → AreAccepted (came_of transcript.new) (came_of declaration.new) (appended_bytes made.old.items made.new.items)
+        → AreAccepted (came_of transcript.new) (came_of declaration.new) (appended_bytes out.old.made.items out.new.made.items)
         × IsTrue (is_ended transcript.new) × IsTrue (is_ended declaration.new) }
-    ensures nothing { result.status ≢ Status.Done → made.new.items ≡ made.old.items }
+    ensures nothing { result.status ≢ Status.Done → out.new.made.items ≡ out.old.made.items }
     // With a verdict the head is answered up to which all seals of the bytes that came are right, or none of bytes without seals.
     ensures known { KnowsSeals (came_of transcript.new) result.status result.head }
-    ensures appends { StartsWith out.new.items out.old.items }
-    ensures makes { StartsWith made.new.items made.old.items }
+    ensures appends { StartsWith out.new.lines.items out.old.lines.items }
+    ensures makes { StartsWith out.new.made.items out.old.made.items }
 {
-    let asked = SearchOptions {
-        budget,
-        forced,
-        open,
-    };
     let mut head = None;
     match judge_inputs(alloc, transcript, declaration, asked, watch, &mut head) {
         Ok(judged) => Answered {
-            status: tell_judged(alloc, &judged, out, made),
+            status: tell_judged(alloc, &judged, &mut out.lines, &mut out.made),
             head,
         },
         Err(told) => Answered {
-            status: append(fault_told_lines(alloc, &told), out),
+            status: append(fault_told_lines(alloc, &told), &mut out.lines),
             head: None,
         },
     }
@@ -171,9 +166,9 @@ fn decision_line(alloc: Global, decision: &Decision) -> Result<String, AllocErro
         Decision::Impossible => {
             String::from_str(alloc, "decided: no order explains every answer\n")
         }
-        Decision::OneObject(object) => {
-            let quoted = quoted_text(alloc, object.as_str())?;
-            format!(in alloc; "decided: no order explains the answers about object {quoted}\n")
+        Decision::Objects(objects) => {
+            let named = objects_text(alloc, objects)?;
+            format!(in alloc; "decided: no order explains the answers about {named}\n")
         }
         Decision::UsedUp(steps) => {
             format!(in alloc; "not decided: the budget of {steps} steps is used up\n")
@@ -195,4 +190,33 @@ fn decision_line(alloc: Global, decision: &Decision) -> Result<String, AllocErro
             "not decided: what the server itself may give at birth was not all tried\n",
         ),
     }
+}
+
+/// Objects by their identifiers, in quotes.
+fn objects_text(alloc: Global, objects: &[String]) -> Result<String, AllocError>
+    ensures { IfOk result (λ text. string_bytes text ≡ objects_text objects.now) }
+{
+    let word = objects_word(objects.len());
+    let named = quoted_texts(alloc, objects)?;
+    format!(in alloc; "{word}{named}")
+}
+
+/// The word for so many objects.
+fn objects_word(count: usize) -> &'static str
+    ensures { result.now ≡ objects_word count }
+{
+    if count > 1 { "objects" } else { "object" }
+}
+
+/// Texts in quotes, each behind a blank.
+fn quoted_texts(alloc: Global, texts: &[String]) -> Result<String, AllocError>
+    ensures { IfOk result (λ text. string_bytes text ≡ flat_map quoted_behind texts.now) }
+{
+    let mut line = String::new(alloc);
+    'texts: for text in texts {
+        let quoted = quoted_text(alloc, text.as_str())?;
+        let one = format!(in alloc; " {quoted}")?;
+        line.push_str(one.as_str())?;
+    }
+    Ok(line)
 }

@@ -10,7 +10,9 @@ ghost use Rattle.kmipa_jobs.specs.Statuses.{IsSilent};
 ghost use Rattle.kmipa_searches.specs.JsonSearches.{BothEnded, DecidesInputs, MakesFile, PrintsJsonSearch, TellsJudged, judged_items};
 ghost use Rattle.kmipa_telling.specs.Seals.{KnowsJudged};
 
-use crate::judged::{Judged, SearchOptions, judge_records};
+use crate::judged::{Judged, judge_records};
+use crate::options::SearchOptions;
+use crate::searched::FoundOutput;
 use crate::telling_found::tell_judged;
 use kmipa_check::AuditFault;
 use kmipa_jobs::Status;
@@ -40,61 +42,62 @@ struct SearchHeld {
     head: Option<Head>,
 }
 
-/// `search TRANSCRIPT DECLARATION OUT --json`: appends to `out` one JSON object and a line feed, which tell what a search as `search_run` makes
-/// it found, where it gave up whether it has decided, and of a message that is outside why it is; and answers the status. Behind what a search of
-/// a sealed transcript found they tell its head, which is answered too. A witness that was found is appended to `made`, as a file; at every other status than `Done` nothing is. Where memory runs out nothing is appended to either,
+/// What a search is asked that tells in JSON.
+#[derive(Clone, Copy, PartialEq, Eq)]
+pub struct JsonSearch {
+    /// Of a torn transcript so many bytes are its own.
+    pub torn: Option<u64>,
+    pub search: SearchOptions,
+}
+
+/// `search TRANSCRIPT DECLARATION OUT --json`: appends to the lines one JSON object and a line feed, which tell what a search
+/// found, where it gave up whether it has decided, and of a message that is outside why it is; and answers the status. Behind what a search of
+/// a sealed transcript found they tell its head, which is answered too. A witness that was found is
+/// appended to what is made, as a file; at every other status than `Done` nothing is. Where memory runs out nothing is appended to either,
 /// and the status is `Failed`.
 pub fn search_json<R: Read, W: Watch>(
     alloc: Global,
-    torn: Option<u64>,
     transcript: &mut Input<R>,
     declaration: &mut Input<R>,
-    budget: u64,
-    forced: bool,
-    open: bool,
+    asked: JsonSearch,
     watch: &mut W,
-    out: &mut Vec<u8>,
-    made: &mut Vec<u8>,
+    out: &mut FoundOutput,
 ) -> Answered
     requires transcript { came_of transcript.old ≡ [] }
     requires declaration { came_of declaration.old ≡ [] }
     // What is made and printed tells what a search answers of whatever the inputs may be, or memory ran out.
     ensures prints { ((outcome : Result Judged FaultTold)
-        × DecidesInputs transcript.new declaration.new (W.seconds watch.old) budget forced outcome
-        × PrintsJsonSearch torn transcript.new declaration.new outcome result.status
-        (appended_bytes out.old.items out.new.items) (appended_bytes made.old.items made.new.items))
-        ⊎ (IsSilent result.status (appended_bytes out.old.items out.new.items)
-        × (appended_bytes made.old.items made.new.items ≡ [])) }
+        × DecidesInputs transcript.new declaration.new (W.seconds watch.old) asked.search.budget asked.search.forced outcome
+        × PrintsJsonSearch asked.torn transcript.new declaration.new outcome result.status
+        (appended_bytes out.old.lines.items out.new.lines.items) (appended_bytes out.old.made.items out.new.made.items))
+        ⊎ (IsSilent result.status (appended_bytes out.old.lines.items out.new.lines.items)
+        × (appended_bytes out.old.made.items out.new.made.items ≡ [])) }
     // Status 0 is answered only where the bytes that came, to the ends that were seen, are accepted with the
     // witness that is made.
     ensures accepts { result.status ≡ Status.Done
-        → AreAccepted (came_of transcript.new) (came_of declaration.new) (appended_bytes made.old.items made.new.items)
+        → AreAccepted (came_of transcript.new) (came_of declaration.new) (appended_bytes out.old.made.items out.new.made.items)
         × BothEnded transcript.new declaration.new }
     // With a verdict the head is answered up to which all seals of the bytes that came are right, or none of bytes without seals.
     ensures known { KnowsSeals (came_of transcript.new) result.status result.head }
-    ensures appends { StartsWith out.new.items out.old.items }
-    ensures makes { StartsWith made.new.items made.old.items }
+    ensures appends { StartsWith out.new.lines.items out.old.lines.items }
+    ensures makes { StartsWith out.new.made.items out.old.made.items }
 {
-    let asked = SearchOptions {
-        budget,
-        forced,
-        open,
-    };
     let mut held = SearchHeld {
         transcript: Vec::new(alloc),
         declaration: Vec::new(alloc),
         head: None,
     };
-    match search_held(alloc, transcript, declaration, &mut held, asked, watch) {
+    let search = asked.search;
+    match search_held(alloc, transcript, declaration, &mut held, search, watch) {
         Ok(outcome) => {
-            let answer = told_of(alloc, torn, transcript, declaration, &held, &outcome);
+            let answer = told_of(alloc, asked.torn, transcript, declaration, &held, &outcome);
             Answered {
-                status: append_both(answer, out, made),
+                status: append_both(answer, &mut out.lines, &mut out.made),
                 head: held.head,
             }
         }
         Err(error) => Answered {
-            status: append_both(Err(error), out, made),
+            status: append_both(Err(error), &mut out.lines, &mut out.made),
             head: None,
         },
     }

@@ -1,26 +1,28 @@
 //! Searches that say what their giving up means.
 
+ghost use Rattle.std.specs.Prelude.{◌≡◌, IfOk, map, string_bytes};
 ghost use Rattle.kmipa_record.specs.Declarations.{AreDeclared, declaration_of};
 ghost use Rattle.kmipa_record.specs.Marks.{AreRecorded};
 ghost use Rattle.kmipa_record.specs.Transcripts.{transcript_of};
-ghost use Rattle.kmipa_searches.specs.Deciding.{DecidesRecords};
+ghost use Rattle.kmipa_searches.specs.Deciding.{DecidesOf, DecidesRecords, given_up_steps};
 
 use crate::deciding::decide;
+use crate::options::SearchOptions;
 use crate::searched::Searched;
 use crate::searching::search_records;
 use crate::stuck::deepest_place;
 use kmipa_check::{CheckFault, Grants};
 use kmipa_orders::{Deepest, Found, Reached, Watch};
 use kmipa_record::{Declaration, Transcript};
-use std::alloc::Global;
+use std::alloc::{AllocError, Global};
 
 /// What a search says by giving up.
 #[derive(Drop)]
 pub enum Decision {
     /// No order explains the transcript.
     Decided,
-    /// No order explains the answers about the object of this identifier.
-    OneObject(String),
+    /// No order explains the answers about the objects of these identifiers, one or several.
+    Objects(Vec<String>),
     /// No order explains the transcript: the answer of one call is impossible over every inventory.
     Impossible,
     /// Nothing: so many steps, the whole budget, are used up.
@@ -45,17 +47,6 @@ pub struct Judged {
     pub reached: Option<Reached>,
 }
 
-/// What a search is asked.
-#[derive(Clone, Copy)]
-pub struct SearchOptions {
-    /// How many steps it may take.
-    pub budget: u64,
-    /// Whether it also says whether the transcript is forced.
-    pub forced: bool,
-    /// Whether it also takes calls without an end mark, and batches without order in other orders.
-    pub open: bool,
-}
-
 /// Searches the records, and where the search gives up, asks whether it has decided, and where it got stuck.
 pub fn judge_records<W: Watch>(
     alloc: Global,
@@ -69,64 +60,60 @@ pub fn judge_records<W: Watch>(
         → DecidesRecords (transcript_of transcript.now) (declaration_of declaration.now)
         (W.seconds watch.old) asked.budget asked.forced result }
 {
-    let grants = Grants::of(declaration);
     let mut deepest = Deepest::new(alloc, watch);
-    let searched = search_records(
-        alloc,
-        transcript,
-        declaration,
-        asked.budget,
-        asked.forced,
-        asked.open,
-        &mut deepest,
-    )?;
-    match &searched.found {
-        Found::Yes(_, _) => Ok(Judged {
+    let searched = search_records(alloc, transcript, declaration, asked, &mut deepest)?;
+    let Some(count) = given_up_steps(&searched.found) else {
+        return Ok(Judged {
             searched,
             decision: None,
             reached: None,
-        }),
-        Found::GaveUp(count) => {
-            let said = decide(alloc, transcript, grants, asked.budget, *count)?;
-            let order = deepest.into_calls()?;
-            let reached = deepest_place(alloc, transcript, declaration, &said, &order)?;
-            Ok(Judged {
-                searched,
-                decision: Some(said),
-                reached,
-            })
-        }
-        Found::Refuted(count, object) => {
-            let named = String::from_str(alloc, object.as_str())?;
-            let said = decide(alloc, transcript, grants, asked.budget, *count)?;
-            let order = deepest.into_calls()?;
-            let reached = deepest_place(alloc, transcript, declaration, &said, &order)?;
-            Ok(Judged {
-                searched,
-                decision: Some(Decision::OneObject(named)),
-                reached,
-            })
-        }
-        Found::Impossible(count, _) => {
-            let said = decide(alloc, transcript, grants, asked.budget, *count)?;
-            let order = deepest.into_calls()?;
-            let reached = deepest_place(alloc, transcript, declaration, &said, &order)?;
-            Ok(Judged {
-                searched,
-                decision: Some(Decision::Impossible),
-                reached,
-            })
-        }
-        Found::OutOfTime(count, after) => {
-            let seconds = *after;
-            let said = decide(alloc, transcript, grants, asked.budget, *count)?;
-            let order = deepest.into_calls()?;
-            let reached = deepest_place(alloc, transcript, declaration, &said, &order)?;
-            Ok(Judged {
-                searched,
-                decision: Some(Decision::OutOfTime(seconds)),
-                reached,
-            })
-        }
+        });
+    };
+    let order = deepest.into_calls()?;
+    let grants = Grants::of(declaration);
+    let said = decide(alloc, transcript, grants, asked.budget, count)?;
+    let reached = deepest_place(alloc, transcript, declaration, &said, &order)?;
+    let decision = decision_of(alloc, &searched.found, said)?;
+    Ok(Judged {
+        searched,
+        decision: Some(decision),
+        reached,
+    })
+}
+
+/// The steps of a search that found no witness.
+fn given_up_steps(found: &Found) -> Option<u64>
+    ensures { result ≡ given_up_steps found.now }
+{
+    match found {
+        Found::Yes(_, _) => None,
+        Found::GaveUp(steps) => Some(*steps),
+        Found::Refuted(steps, _) => Some(*steps),
+        Found::Impossible(steps, _) => Some(*steps),
+        Found::OutOfTime(steps, _) => Some(*steps),
     }
+}
+
+/// What is decided by what a search found, where this is said of the calls.
+fn decision_of(alloc: Global, found: &Found, said: Decision) -> Result<Decision, AllocError>
+    ensures { IfOk result (DecidesOf found.now said) }
+{
+    match found {
+        Found::Yes(_, _) => Ok(said),
+        Found::GaveUp(_) => Ok(said),
+        Found::Refuted(_, objects) => Ok(Decision::Objects(copied(alloc, objects)?)),
+        Found::Impossible(_, _) => Ok(Decision::Impossible),
+        Found::OutOfTime(_, after) => Ok(Decision::OutOfTime(*after)),
+    }
+}
+
+/// The same texts.
+fn copied(alloc: Global, texts: &[String]) -> Result<Vec<String>, AllocError>
+    ensures { IfOk result (λ copy. map string_bytes copy.items ≡ map string_bytes texts.now) }
+{
+    let mut copy = Vec::with_capacity(alloc, texts.len())?;
+    'texts: for text in texts {
+        copy.push(String::from_str(alloc, text.as_str())?)?;
+    }
+    Ok(copy)
 }

@@ -7,12 +7,17 @@ mod deepest_claims;
 mod giving_up;
 mod json_search;
 mod judged;
+mod options;
 mod searched;
 mod searching;
 mod stuck;
 mod telling_found;
 
 pub use giving_up::explain_search_run;
-pub use json_search::search_json;
-pub use searched::Searched;
-pub use searching::{search_records, search_run, searched_lines, tell_searched, tell_witness};
+pub use json_search::{JsonSearch, search_json};
+pub use options::SearchOptions;
+pub use searched::{CallsAsked, FoundOutput, Searched};
+pub use searching::{
+    forced_line, if_forced, search_read, search_records, searched_lines, tell_searched,
+    tell_witness,
+};

@@ -1,7 +1,7 @@
 //! What a search finds.
 
+use crate::options::SearchOptions;
 use kmipa_orders::Found;
-use kmipa_record::Head;
 use kmipa_stream::Tally;
 
 /// What a search found, and whether the transcript is forced, where that was asked for.
@@ -13,9 +13,19 @@ pub struct Searched {
     pub tally: Option<Tally>,
 }
 
-/// The same of two inputs, with what the transcript is known by.
+/// What is printed and made of a search.
 #[derive(Drop)]
-pub(crate) struct Looked {
-    pub searched: Searched,
-    pub head: Option<Head>,
+pub struct FoundOutput {
+    /// The lines.
+    pub lines: Vec<u8>,
+    /// The witness that is found, as a file.
+    pub made: Vec<u8>,
+}
+
+/// What a search of calls that were read is asked.
+#[derive(Clone, Copy)]
+pub struct CallsAsked {
+    /// Whether the transcript is forced, where that was asked for.
+    pub forced: Option<bool>,
+    pub search: SearchOptions,
 }

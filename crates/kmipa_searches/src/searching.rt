@@ -1,204 +1,76 @@
 //! `search`: a witness of a transcript and a declaration.
 
-ghost use Rattle.std.specs.Prelude.{◌≡◌, ◌≢◌, ◌⊎◌, ℕ, List, [], Bool, All, IsTrue, IfOk, MatchResult, OnOk, Result, Ok, Err, map, string_bytes};
+ghost use Rattle.std.specs.Prelude.{◌≡◌, ◌≢◌, ◌⊎◌, List, [], Bool, All, IfOk, MatchResult, Result, Ok, Err, map, string_bytes};
 ghost use Rattle.std.specs.Io.{StartsWith, appended_bytes};
-ghost use Rattle.kmipa_ttlv.specs.Input.{came_of, is_ended, is_failed, IsFileOf};
 ghost use Rattle.kmipa_record.specs.Declarations.{AreDeclared, declaration_of};
 ghost use Rattle.kmipa_record.specs.Marks.{AreRecorded, MarkOf};
 ghost use Rattle.kmipa_record.specs.Transcripts.{transcript_of};
 ghost use Rattle.kmipa_record.specs.Witnesses.{witness_of, IsWitness};
-ghost use Rattle.kmipa_check.specs.Audits.{AreAccepted};
 ghost use Rattle.kmipa_check.specs.Calls.{AreCalls, IsRecorded, call_of};
 ghost use Rattle.kmipa_orders.specs.Found.{SearchesIn};
-ghost use Rattle.kmipa_runs.specs.Knowing.{Known, KnowsSeals};
-ghost use Rattle.kmipa_searches.specs.Searches.{found_status, found_text, forced_text, IsForcedTold, PrintsSearch, SearchesFiles, SearchesRecords, TalliesFound, TellsIfForced, searched_alone, searched_text};
+ghost use Rattle.kmipa_searches.specs.Searches.{found_status, found_text, forced_text, IsForcedTold, PrintsSearch, SearchesRecords, TalliesFound, TellsIfForced, searched_text};
 ghost use Rattle.kmipa_jobs.specs.Statuses.{IsSilent};
 
-use crate::searched::{Looked, Searched};
-use kmipa_check::{AuditFault, CheckFault, read_calls};
+use crate::options::SearchOptions;
+use crate::searched::{CallsAsked, Searched};
+use kmipa_check::{CheckFault, read_calls};
 use kmipa_jobs::Status;
 use kmipa_orders::{Found, Watch, is_forced};
-use kmipa_record::{
-    Call, Declaration, Transcript, Witness, read_declaration, read_transcript, write_witness,
-};
-use kmipa_runs::{Answered, Lines, append, fault_lines, tally_text};
+use kmipa_record::{Call, Declaration, Transcript, Witness, write_witness};
+use kmipa_runs::{Lines, append, tally_text};
 use kmipa_search::{search_calls, search_open_calls};
 use kmipa_stream::{Tally, tally_of_turns};
-use kmipa_ttlv::Input;
 use std::alloc::{AllocError, Global};
-use std::io::Read;
-use std::mem::forget;
-
-/// `search TRANSCRIPT DECLARATION OUT`: looks for a witness with at most `budget` steps. Appends to `out` the lines of
-/// what was found, with `forced` before them whether the transcript is forced, or the line of the fault that stands
-/// in their place, and answers the status. With `open` calls without an end mark are taken too, and batches without
-/// order in other orders. A witness that was found is appended to `made`, as a file; at every other
-/// status than `Done` nothing is. Where memory runs out nothing is appended to either, and the status is `Failed`. The
-/// watcher is reported of each step. It is for a program's one search: what it read of the transcript is not given back.
-pub fn search_run<R: Read, W: Watch>(
-    alloc: Global,
-    transcript: &mut Input<R>,
-    declaration: &mut Input<R>,
-    budget: u64,
-    forced: bool,
-    open: bool,
-    watch: &mut W,
-    out: &mut Vec<u8>,
-    made: &mut Vec<u8>,
-) -> Answered
-    requires transcript { came_of transcript.old ≡ [] }
-    requires declaration { came_of declaration.old ≡ [] }
-    // What is made and printed tells what a search answers of whatever the inputs may be, or memory ran out.
-    ensures prints { (outcome : Result Searched AuditFault)
-        × ((t d : List ℕ) → IsFileOf t transcript.new → IsFileOf d declaration.new
-        → SearchesFiles t d (is_failed transcript.new) (is_failed declaration.new)
-        (W.seconds watch.old) budget forced outcome)
-        × (PrintsSearch outcome result.status (appended_bytes out.old.items out.new.items)
-        (appended_bytes made.old.items made.new.items)
-        ⊎ (IsSilent result.status (appended_bytes out.old.items out.new.items)
-        × (appended_bytes made.old.items made.new.items ≡ []))) }
-    // Status 0 is answered only where the bytes that came, to the ends that were seen, are accepted with the
-    // witness that is made.
-    ensures accepts { result.status ≡ Status.Done
-        → AreAccepted (came_of transcript.new) (came_of declaration.new) (appended_bytes made.old.items made.new.items)
-        × IsTrue (is_ended transcript.new) × IsTrue (is_ended declaration.new) }
-    ensures nothing { result.status ≢ Status.Done → made.new.items ≡ made.old.items }
-    ensures appends { StartsWith out.new.items out.old.items }
-    ensures makes { StartsWith made.new.items made.old.items }
-    // Behind each verdict stands what the transcript is known by.
-    ensures known { KnowsSeals (came_of transcript.new) result.status result.head }
-{
-    match search_inputs(alloc, transcript, declaration, budget, forced, open, watch) {
-        Ok(looked) => Answered {
-            status: tell_searched(alloc, &looked.searched, out, made),
-            head: looked.head,
-        },
-        Err(fault) => Answered {
-            status: append(fault_lines(alloc, &fault), out),
-            head: None,
-        },
-    }
-}
-
-/// Reads the two inputs, of which nothing was read, one after the other, and searches.
-fn search_inputs<R: Read, W: Watch>(
-    alloc: Global,
-    transcript: &mut Input<R>,
-    declaration: &mut Input<R>,
-    budget: u64,
-    forced: bool,
-    open: bool,
-    watch: &mut W,
-) -> Result<Looked, AuditFault>
-    requires transcript { came_of transcript.old ≡ [] }
-    requires declaration { came_of declaration.old ≡ [] }
-    ensures searches { (t d : List ℕ) → IsFileOf t transcript.new → IsFileOf d declaration.new
-        → SearchesFiles t d (is_failed transcript.new) (is_failed declaration.new)
-        (W.seconds watch.old) budget forced
-        (searched_alone result) }
-    ensures known { IfOk result (λ looked. Known (came_of transcript.new) looked.head) }
-    ensures ended { OnOk result (IsTrue (is_ended transcript.new) × IsTrue (is_ended declaration.new)) }
-{
-    let mut transcript = match read_transcript(alloc, transcript) {
-        Ok(transcript) => transcript,
-        Err(fault) => return Err(AuditFault::Transcript(fault)),
-    };
-    let head = transcript.head.take();
-    let declaration = match read_declaration(alloc, declaration) {
-        Ok(declaration) => declaration,
-        Err(fault) => return Err(AuditFault::Declaration(fault)),
-    };
-    match search_at_last(alloc, transcript, &declaration, budget, forced, open, watch) {
-        Ok(searched) => Ok(Looked { searched, head }),
-        Err(fault) => Err(AuditFault::Check(fault)),
-    }
-}
-
-/// Searches the records of a run's one search. Neither the transcript nor its calls are given back: the program ends behind it, and its
-/// system takes their pages back at once, where to let go of each message takes a tenth of the search.
-fn search_at_last<W: Watch>(
-    alloc: Global,
-    transcript: Transcript,
-    declaration: &Declaration,
-    budget: u64,
-    asked: bool,
-    open: bool,
-    watch: &mut W,
-) -> Result<Searched, CheckFault>
-    requires { AreDeclared (declaration_of declaration.now) }
-    ensures { AreRecorded (transcript_of transcript)
-        → SearchesRecords (transcript_of transcript) (declaration_of declaration.now)
-        (W.seconds watch.old) budget asked result }
-{
-    let forced = if_forced(alloc, &transcript, asked)?;
-    let calls = read_calls(alloc, &transcript)?;
-    let searched = search_read(
-        alloc,
-        &transcript,
-        declaration,
-        &calls,
-        forced,
-        budget,
-        open,
-        watch,
-    );
-    forget(calls);
-    forget(transcript);
-    searched
-}
 
 /// Searches the records.
 pub fn search_records<W: Watch>(
     alloc: Global,
     transcript: &Transcript,
     declaration: &Declaration,
-    budget: u64,
-    forced: bool,
-    open: bool,
+    asked: SearchOptions,
     watch: &mut W,
 ) -> Result<Searched, CheckFault>
     requires { AreDeclared (declaration_of declaration.now) }
     ensures { AreRecorded (transcript_of transcript.now)
         → SearchesRecords (transcript_of transcript.now) (declaration_of declaration.now)
-        (W.seconds watch.old) budget forced result }
+        (W.seconds watch.old) asked.budget asked.forced result }
 {
-    let forced = if_forced(alloc, transcript, forced)?;
+    let forced = if_forced(alloc, transcript, declaration, asked.forced)?;
     let calls = read_calls(alloc, transcript)?;
     search_read(
         alloc,
         transcript,
         declaration,
         &calls,
-        forced,
-        budget,
-        open,
+        CallsAsked {
+            forced,
+            search: asked,
+        },
         watch,
     )
 }
 
 /// Searches calls that were read of the transcript, of which this is told, and says what became of the items by the witness that is found.
-fn search_read<W: Watch>(
+pub fn search_read<W: Watch>(
     alloc: Global,
     transcript: &Transcript,
     declaration: &Declaration,
     calls: &[Call],
-    forced: Option<bool>,
-    budget: u64,
-    open: bool,
+    told: CallsAsked,
     watch: &mut W,
 ) -> Result<Searched, CheckFault>
     requires declared { AreDeclared (declaration_of declaration.now) }
     requires each { All (IsRecorded (transcript_of transcript.now)) (map call_of calls.now) }
     ensures { (asked : Bool) → AreRecorded (transcript_of transcript.now)
         → AreCalls (transcript_of transcript.now) (map call_of calls.now)
-        → IsForcedTold (transcript_of transcript.now) asked forced
+        → IsForcedTold (transcript_of transcript.now) (declaration_of declaration.now) asked told.forced
         → SearchesRecords (transcript_of transcript.now) (declaration_of declaration.now)
-        (W.seconds watch.old) budget asked result }
+        (W.seconds watch.old) told.search.budget asked result }
 {
-    let found = search_as_asked(alloc, transcript, declaration, calls, budget, open, watch)?;
+    let found = search_as_asked(alloc, transcript, declaration, calls, told.search, watch)?;
     let tally = tally_of_found(alloc, declaration, calls, &found)?;
     Ok(Searched {
-        forced,
+        forced: told.forced,
         found,
         tally,
     })
@@ -235,8 +107,7 @@ fn search_as_asked<W: Watch>(
     transcript: &Transcript,
     declaration: &Declaration,
     calls: &[Call],
-    budget: u64,
-    open: bool,
+    asked: SearchOptions,
     watch: &mut W,
 ) -> Result<Found, CheckFault>
     requires declared { AreDeclared (declaration_of declaration.now) }
@@ -244,25 +115,28 @@ fn search_as_asked<W: Watch>(
     ensures { AreRecorded (transcript_of transcript.now)
         → AreCalls (transcript_of transcript.now) (map call_of calls.now)
         → SearchesIn (W.seconds watch.old) (transcript_of transcript.now)
-        (declaration_of declaration.now) budget result }
+        (declaration_of declaration.now) asked.budget result }
 {
-    if open {
-        search_open_calls(alloc, transcript, declaration, calls, budget, watch)
+    if asked.open {
+        search_open_calls(alloc, transcript, declaration, calls, asked.budget, watch)
     } else {
-        search_calls(alloc, transcript, declaration, calls, budget, watch)
+        search_calls(alloc, transcript, declaration, calls, asked.budget, watch)
     }
 }
 
-/// Whether a transcript is forced, where that is asked for.
-fn if_forced(
+/// Whether a transcript is forced under the tolerance that is declared, where that is asked for.
+pub fn if_forced(
     alloc: Global,
     transcript: &Transcript,
+    declaration: &Declaration,
     asked: bool,
 ) -> Result<Option<bool>, CheckFault>
-    ensures { AreRecorded (transcript_of transcript.now) → TellsIfForced (transcript_of transcript.now) asked result }
+    ensures { AreRecorded (transcript_of transcript.now)
+        → TellsIfForced (transcript_of transcript.now) (declaration_of declaration.now) asked result }
 {
     if asked {
-        Ok(Some(is_forced(alloc, transcript)?))
+        let tolerance = declaration.settings.tolerance;
+        Ok(Some(is_forced(alloc, transcript, tolerance)?))
     } else {
         Ok(None)
     }
@@ -335,7 +209,8 @@ pub fn searched_lines(alloc: Global, searched: &Searched) -> Result<Lines, Alloc
     Ok(Lines { text, status })
 }
 
-fn forced_line(forced: Option<bool>) -> &'static str
+/// The line that tells whether a transcript is forced, where that was asked for.
+pub fn forced_line(forced: Option<bool>) -> &'static str
     ensures { result.now ≡ forced_text forced }
 {
     match forced {

@@ -34,7 +34,7 @@ pub fn deepest_place(
         Decision::NotPlain(_) => Ok(None),
         Decision::Tolerant(_) => some_place(alloc, transcript, declaration, order),
         Decision::Births => some_place(alloc, transcript, declaration, order),
-        Decision::OneObject(_) => Ok(None),
+        Decision::Objects(_) => Ok(None),
         Decision::Impossible => Ok(None),
         Decision::OutOfTime(_) => Ok(None),
     }

@@ -4,12 +4,12 @@ ghost use Rattle.std.specs.Prelude.{◌≡◌, IfOk, OnOk};
 ghost use Rattle.kmipa_json.specs.Told.{items_of, members_of};
 ghost use Rattle.kmipa_searches.specs.Searches.{found_status};
 ghost use Rattle.kmipa_telling.specs.Claims.{call_items};
-ghost use Rattle.kmipa_searches.specs.JsonSearches.{decision_members, found_members, steps_members, told_found};
+ghost use Rattle.kmipa_searches.specs.JsonSearches.{decision_members, found_members, object_items, objects_members, steps_members, told_found};
 
 use crate::deepest_claims::tell_reached;
 use crate::judged::{Decision, Judged};
 use kmipa_jobs::Status;
-use kmipa_json::JsonObject;
+use kmipa_json::{JsonList, JsonObject};
 use kmipa_orders::Found;
 use kmipa_telling::{calls_list, tell_tally};
 use std::alloc::{AllocError, Global};
@@ -76,9 +76,9 @@ fn tell_decision(
     match decision {
         Decision::Decided => told.put_truth("decided", true),
         Decision::Impossible => told.put_truth("decided", true),
-        Decision::OneObject(object) => {
+        Decision::Objects(objects) => {
             told.put_truth("decided", true)?;
-            told.put_text("object", object.as_str())
+            tell_objects(alloc, told, objects)
         }
         Decision::UsedUp(steps) => {
             told.put_truth("decided", false)?;
@@ -101,4 +101,25 @@ fn tell_decision(
             told.put_truth("births", true)
         }
     }
+}
+
+/// Puts the identifiers of objects into an object: that of one alone, or a list.
+fn tell_objects(alloc: Global, told: &mut JsonObject, objects: &[String]) -> Result<(), AllocError>
+    ensures { OnOk result (members_of told.new ≡ objects_members objects.now (members_of told.old)) }
+{
+    match objects {
+        [object] => told.put_text("object", object.as_str()),
+        _ => told.put_list("objects", texts_list(alloc, objects)?),
+    }
+}
+
+/// A list of texts.
+fn texts_list(alloc: Global, texts: &[String]) -> Result<JsonList, AllocError>
+    ensures { IfOk result (λ list. items_of list ≡ object_items texts.now) }
+{
+    let mut list = JsonList::new(alloc);
+    'texts: for text in texts {
+        list.push_text(text.as_str())?;
+    }
+    Ok(list)
 }

@@ -11,25 +11,25 @@ pub returns-in-Ok-clause-prints : goal.returns-in-Ok-clause-prints
 returns-in-Ok-clause-prints g c =
     let t = c.search_held.new.transcript in
     let d = c.search_held.new.declaration in
-    let lines = appended_bytes c.args.out.now.items c.append_both.new.out.items in
-    let made = appended_bytes c.args.made.now.items c.append_both.new.made.items in
-    printed_search c.args.torn t d (g.W.Watch.seconds c.args.watch.now) c.args.budget c.args.forced c.in-Ok.outcome c.append_both.result lines made c.in-Ok.ensures.decides
-    (search_reported c.args.torn c.told_of-answer.result t d c.in-Ok.outcome c.append_both.result lines made c.told_of-answer.ensures c.append_both.ensures.appended)
+    let lines = appended_bytes c.args.out.now.lines.items c.append_both.new.out.items in
+    let made = appended_bytes c.args.out.now.made.items c.append_both.new.made.items in
+    printed_search c.args.asked.torn t d (g.W.Watch.seconds c.args.watch.now) c.args.asked.search.budget c.args.asked.search.forced c.in-Ok.outcome c.append_both.result lines made c.in-Ok.ensures.decides
+    (search_reported c.args.asked.torn c.told_of-answer.result t d c.in-Ok.outcome c.append_both.result lines made c.told_of-answer.ensures c.append_both.ensures.appended)
 
 pub returns-in-Ok-clause-accepts : goal.returns-in-Ok-clause-accepts
 returns-in-Ok-clause-accepts g c = λ done.
-    let lines = appended_bytes c.args.out.now.items c.append_both.new.out.items in
-    let made = appended_bytes c.args.made.now.items c.append_both.new.made.items in
-    done_is_found c.args.torn c.search_held.new.transcript c.search_held.new.declaration (g.W.Watch.seconds c.args.watch.now) c.args.budget c.args.forced c.append_both.result lines made (returns-in-Ok-clause-prints g c) done
+    let lines = appended_bytes c.args.out.now.lines.items c.append_both.new.out.items in
+    let made = appended_bytes c.args.out.now.made.items c.append_both.new.made.items in
+    done_is_found c.args.asked.torn c.search_held.new.transcript c.search_held.new.declaration (g.W.Watch.seconds c.args.watch.now) c.args.asked.search.budget c.args.asked.search.forced c.append_both.result lines made (returns-in-Ok-clause-prints g c) done
 
 pub returns-in-Ok-clause-known : goal.returns-in-Ok-clause-known
 returns-in-Ok-clause-known g c =
     let t = c.search_held.new.transcript in
     let d = c.search_held.new.declaration in
-    let lines = appended_bytes c.args.out.now.items c.append_both.new.out.items in
-    let made = appended_bytes c.args.made.now.items c.append_both.new.made.items in
-    search_knows c.args.torn t d c.in-Ok.outcome c.append_both.result lines made c.search_held.new.held.head c.in-Ok.ensures.known
-    (search_reported c.args.torn c.told_of-answer.result t d c.in-Ok.outcome c.append_both.result lines made c.told_of-answer.ensures c.append_both.ensures.appended)
+    let lines = appended_bytes c.args.out.now.lines.items c.append_both.new.out.items in
+    let made = appended_bytes c.args.out.now.made.items c.append_both.new.made.items in
+    search_knows c.args.asked.torn t d c.in-Ok.outcome c.append_both.result lines made c.search_held.new.held.head c.in-Ok.ensures.known
+    (search_reported c.args.asked.torn c.told_of-answer.result t d c.in-Ok.outcome c.append_both.result lines made c.told_of-answer.ensures c.append_both.ensures.appended)
 
 pub returns-in-Err-clause-prints : goal.returns-in-Err-clause-prints
 returns-in-Err-clause-prints g c = inr (only_silent c.append_both-in-Err.ensures.appended)
@@ -37,9 +37,9 @@ returns-in-Err-clause-prints g c = inr (only_silent c.append_both-in-Err.ensures
 pub returns-in-Err-clause-accepts : goal.returns-in-Err-clause-accepts
 returns-in-Err-clause-accepts g c = λ done.
     let silent = only_silent c.append_both-in-Err.ensures.appended in
-    absurd (silent_not_done c.append_both-in-Err.result (appended_bytes c.args.out.now.items c.append_both-in-Err.new.out.items) silent.0 done)
+    absurd (silent_not_done c.append_both-in-Err.result (appended_bytes c.args.out.now.lines.items c.append_both-in-Err.new.out.items) silent.0 done)
 
 pub returns-in-Err-clause-known : goal.returns-in-Err-clause-known
 returns-in-Err-clause-known g c =
     let silent = only_silent c.append_both-in-Err.ensures.appended in
-    silent_knows (came_of c.search_held.new.transcript) c.append_both-in-Err.result (appended_bytes c.args.out.now.items c.append_both-in-Err.new.out.items) None silent.0
+    silent_knows (came_of c.search_held.new.transcript) c.append_both-in-Err.result (appended_bytes c.args.out.now.lines.items c.append_both-in-Err.new.out.items) None silent.0

@@ -1,0 +1,5 @@
+use Rattle.std.proofs.Common.{◌≡◌, map, string_bytes, take}
+use Rattle.kmipa_searches.proofs.judged.copied.Given as goal
+
+abbrev pub invariant-texts : goal.invariant-texts
+invariant-texts l = map string_bytes l.copy.items ≡ map string_bytes (take l.text-index l.texts)
