@@ -1,6 +1,6 @@
 -- What is found, made and printed of a segment that is searched.
 use Rattle.std.proofs.Common.{◌≡◌, ◌≢◌, ◌⊎◌, inl, inr, ◌≤◌, ◌≤ℤ◌, ℕ, ℤ, List, [], ◌++◌, Bool, true, false, IsTrue, Contains, map, length, take, Option, Some, None, Result, Ok, Err, OnOk, refl, sym, ap, ◌∙◌, subst}
-use Rattle.std.specs.Prelude.{String}
+use Rattle.std.specs.Prelude.{String, Vec}
 use Rattle.std.specs.declared.alloc.Global.{Global}
 use Rattle.std.specs.Result.{is_err}
 use Rattle.std.specs.Int.Signed.{clash_ℤ}
@@ -204,10 +204,10 @@ gives_up marks declared since count seconds budget r found = (found.0, (found.1.
     by nothing (by_search decided) e = found.1.2 nothing decided e.explained
     by nothing (ended_below below) e = never_below marks declared nothing since found.1.0 r found.1.1 below e
 
--- and so does one that finds an object which refutes them
-pub refutes : (marks : List MarkOf) (declared : DeclarationOf) (since : Option ℤ) (count seconds budget : ℕ) (object : String Global) → Finds marks declared budget (Refuted count object)
-    → FindsSince marks declared since seconds budget (Refuted count object) None
-refutes marks declared since count seconds budget object found = (found.0, λ e. found.2 e.explained)
+-- and so does one that finds objects which refute them
+pub refutes : (marks : List MarkOf) (declared : DeclarationOf) (since : Option ℤ) (count seconds budget : ℕ) (objects : Vec (String Global) Global) → Finds marks declared budget (Refuted count objects)
+    → FindsSince marks declared since seconds budget (Refuted count objects) None
+refutes marks declared since count seconds budget objects found = (found.0, λ e. found.2 e.explained)
 
 -- or a call whose answer is impossible over every inventory
 pub never_explained : (marks : List MarkOf) (declared : DeclarationOf) (since : Option ℤ) (count seconds budget call : ℕ) → Finds marks declared budget (Impossible count call)

@@ -51,7 +51,7 @@ pub data HasDecidedSince (calls : List CallOf) (since : Option ℤ) (budget coun
 
 -- A yes is that of a search, with a witness that is accepted from the moment on, and leads to what is left. Giving up comes only where all
 -- messages are inside, also where the search found a witness that takes a call below the moment; where it has decided, and moments are stamps, it
--- tells that nothing explains these calls from the moment on; and so it tells where one object refutes them. Where the seconds of the search are
+-- tells that nothing explains these calls from the moment on; and so it tells where some objects refute them. Where the seconds of the search are
 -- over, nothing is told of them.
 abbrev pub FindsSince : List MarkOf → DeclarationOf → Option ℤ → ℕ → ℕ → Found → Option Left → Type 0
 FindsSince marks declared since seconds budget (Yes witness count) (Some left) = Finds marks declared budget (Yes witness count)
@@ -71,7 +71,7 @@ FindsSince marks declared since seconds budget (OutOfTime count after) None = Fi
 -- what a search of the records of a segment answers
 abbrev pub SearchesSegment : List MarkOf → DeclarationOf → Option ℤ → ℕ → ℕ → Bool → Result FoundSegment CheckFault → Type 0
 SearchesSegment marks declared since seconds budget asked (Ok segment) =
-    IsForcedTold marks asked segment.searched.forced × FindsSince marks declared since seconds budget segment.searched.found segment.left
+    IsForcedTold marks declared asked segment.searched.forced × FindsSince marks declared since seconds budget segment.searched.found segment.left
     × TalliesFound marks declared segment.searched.found segment.searched.tally
 SearchesSegment marks declared since seconds budget asked (Err fault) = SearchStops marks fault
 

@@ -1,5 +1,7 @@
 //! What is asked of a segment, and what is printed and made of it.
 
+use kmipa_searches::SearchOptions;
+
 /// What is asked of a segment of an audit that goes on from file to file.
 #[derive(Clone, Copy, PartialEq, Eq)]
 pub struct SegmentAsked {
@@ -12,12 +14,7 @@ pub struct SegmentAsked {
 /// What is asked of the search of a segment.
 #[derive(Clone, Copy, PartialEq, Eq)]
 pub struct SearchAsked {
-    /// The most steps that are made.
-    pub budget: u64,
-    /// Tells first whether the transcript is forced.
-    pub forced: bool,
-    /// Takes calls without an end mark too, as `search_run` does.
-    pub open: bool,
+    pub search: SearchOptions,
     pub segment: SegmentAsked,
 }
 

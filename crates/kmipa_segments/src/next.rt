@@ -15,6 +15,7 @@ use kmipa_check::{AuditFault, Checked, check_segment_on};
 use kmipa_links::{Gap, Links, Unlinked, read_segment};
 use kmipa_orders::Watch;
 use kmipa_record::{Transcript, Witness, read_witness};
+use kmipa_searches::SearchOptions;
 use kmipa_store::Journal;
 use kmipa_ttlv::Input;
 use std::alloc::Global;
@@ -103,9 +104,11 @@ pub fn search_next_input<R: Read, W: Watch>(
     };
     let held = &chain.held;
     let asked = SearchAsked {
-        budget: next.budget,
-        forced: false,
-        open: false,
+        search: SearchOptions {
+            budget: next.budget,
+            forced: false,
+            open: false,
+        },
         segment: SegmentAsked {
             since: held.until,
             leaves: false,

@@ -75,7 +75,7 @@ pub fn search_segment_run<R: Read, W: Watch>(
     ensures prints { (outcome : Result FoundSegment AuditFault)
         × ((t d : List ℕ) → IsFileOf t transcript.new → IsFileOf d declaration.new
         → SearchesSince t d (is_failed transcript.new) (is_failed declaration.new) asked.segment.since
-        (W.seconds watch.old) asked.budget asked.forced outcome)
+        (W.seconds watch.old) asked.search.budget asked.search.forced outcome)
         × (PrintsSegmentSearch asked.segment.leaves outcome result.status
         (appended_bytes out.old.lines.items out.new.lines.items)
         (appended_bytes out.old.made.items out.new.made.items)
@@ -129,7 +129,7 @@ fn search_inputs<R: Read, W: Watch>(
     requires declaration { came_of declaration.old ≡ [] }
     ensures searches { (t d : List ℕ) → IsFileOf t transcript.new → IsFileOf d declaration.new
         → SearchesSince t d (is_failed transcript.new) (is_failed declaration.new) asked.segment.since
-        (W.seconds watch.old) asked.budget asked.forced
+        (W.seconds watch.old) asked.search.budget asked.search.forced
         (found_alone result) }
     ensures known { IfOk result (λ known. Known (came_of transcript.new) known.head) }
     ensures ended { OnOk result (IsTrue (is_ended transcript.new) × IsTrue (is_ended declaration.new)) }
@@ -162,17 +162,9 @@ pub fn search_segment<W: Watch>(
     requires { AreDeclared (declaration_of declaration.now) }
     ensures { AreRecorded (transcript_of transcript.now)
         → SearchesSegment (transcript_of transcript.now) (declaration_of declaration.now) asked.segment.since
-        (W.seconds watch.old) asked.budget asked.forced result }
+        (W.seconds watch.old) asked.search.budget asked.search.forced result }
 {
-    let searched = match search_records(
-        alloc,
-        transcript,
-        declaration,
-        asked.budget,
-        asked.forced,
-        asked.open,
-        watch,
-    ) {
+    let searched = match search_records(alloc, transcript, declaration, asked.search, watch) {
         Ok(searched) => searched,
         Err(fault) => return Err(fault),
     };
@@ -189,31 +181,10 @@ pub fn search_segment<W: Watch>(
             };
             go_on(alloc, transcript, declaration, asked.segment.since, found)
         }
-        Found::GaveUp(count) => Ok(gave_up(forced, count)),
-        Found::Refuted(count, object) => Ok(FoundSegment {
-            searched: Searched {
-                forced,
-                found: Found::Refuted(count, object),
-                tally: None,
-            },
-            left: None,
-        }),
-        Found::Impossible(count, call) => Ok(FoundSegment {
-            searched: Searched {
-                forced,
-                found: Found::Impossible(count, call),
-                tally: None,
-            },
-            left: None,
-        }),
-        Found::OutOfTime(count, after) => Ok(FoundSegment {
-            searched: Searched {
-                forced,
-                found: Found::OutOfTime(count, after),
-                tally: None,
-            },
-            left: None,
-        }),
+        Found::GaveUp(count) => Ok(unfound(forced, Found::GaveUp(count))),
+        Found::Refuted(count, objects) => Ok(unfound(forced, Found::Refuted(count, objects))),
+        Found::Impossible(count, call) => Ok(unfound(forced, Found::Impossible(count, call))),
+        Found::OutOfTime(count, after) => Ok(unfound(forced, Found::OutOfTime(count, after))),
     }
 }
 
@@ -227,7 +198,7 @@ fn go_on(
 ) -> Result<FoundSegment, CheckFault>
     requires { AreDeclared (declaration_of declaration.now) }
     ensures { (seconds budget : ℕ) (asked : Bool) → AreRecorded (transcript_of transcript.now)
-        → IsForcedTold (transcript_of transcript.now) asked found.forced
+        → IsForcedTold (transcript_of transcript.now) (declaration_of declaration.now) asked found.forced
         → Finds (transcript_of transcript.now) (declaration_of declaration.now) budget (Yes found.witness found.count)
         → TalliesFound (transcript_of transcript.now) (declaration_of declaration.now)
         (Yes found.witness found.count) found.tally
@@ -253,18 +224,18 @@ fn go_on(
             },
             left: Some(left),
         }),
-        None => Ok(gave_up(forced, count)),
+        None => Ok(unfound(forced, Found::GaveUp(count))),
     }
 }
 
 /// No witness was found that goes on from the moment.
-fn gave_up(forced: Option<bool>, count: u64) -> FoundSegment
-    ensures { result ≡ record { searched = record { forced = forced; found = Found.GaveUp count; tally = None }; left = None } }
+fn unfound(forced: Option<bool>, found: Found) -> FoundSegment
+    ensures { result ≡ record { searched = record { forced = forced; found = found; tally = None }; left = None } }
 {
     FoundSegment {
         searched: Searched {
             forced,
-            found: Found::GaveUp(count),
+            found,
             tally: None,
         },
         left: None,

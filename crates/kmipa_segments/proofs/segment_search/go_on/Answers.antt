@@ -24,7 +24,7 @@ returns-in-None c = λ seconds budget asked r forced found tallied.
     let marks = transcript_of c.args.transcript.now in
     let declared = declaration_of c.args.declaration.now in
     let P : FoundSegment → Type 0 = λ s. SearchesSegment marks declared c.args.since seconds budget asked (Ok s) in
-    subst P (sym c.gave_up.ensures) (
+    subst P (sym c.unfound.ensures) (
       forced,
       goes_no_further marks declared c.args.since c.args.found.witness c.args.found.count seconds budget c.in-Ok.checked.verdict c.in-Ok.checked.left r found (c.in-Ok.ensures.checks r) (c.in-Ok.ensures.leads r) c.in-None.is,
       refl,

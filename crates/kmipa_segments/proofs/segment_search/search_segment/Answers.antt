@@ -12,8 +12,8 @@ returns-in-Yes g c = λ r.
     let marks = transcript_of c.args.transcript.now in
     let declared = declaration_of c.args.declaration.now in
     let searched = c.in-Ok.ensures r in
-    c.go_on.ensures (g.W.Watch.seconds c.args.watch.now) c.args.asked.budget c.args.asked.forced r searched.0
-    (found_so marks declared (g.W.Watch.seconds c.args.watch.now) c.args.asked.budget c.in-Ok.searched.found (Yes c.in-Yes.witness c.in-Yes.count) c.in-Yes.is searched.1)
+    c.go_on.ensures (g.W.Watch.seconds c.args.watch.now) c.args.asked.search.budget c.args.asked.search.forced r searched.0
+    (found_so marks declared (g.W.Watch.seconds c.args.watch.now) c.args.asked.search.budget c.in-Ok.searched.found (Yes c.in-Yes.witness c.in-Yes.count) c.in-Yes.is searched.1)
     (tallied_so marks declared c.in-Ok.searched.found (Yes c.in-Yes.witness c.in-Yes.count) c.in-Ok.searched.tally c.in-Yes.is searched.2)
 
 pub returns-in-GaveUp : goal.returns-in-GaveUp
@@ -21,11 +21,11 @@ returns-in-GaveUp g c = λ r.
     let marks = transcript_of c.args.transcript.now in
     let declared = declaration_of c.args.declaration.now in
     let searched = c.in-Ok.ensures r in
-    let P : FoundSegment → Type 0 = λ s. SearchesSegment marks declared c.args.asked.segment.since (g.W.Watch.seconds c.args.watch.now) c.args.asked.budget c.args.asked.forced (Ok s) in
-    subst P (sym c.gave_up.ensures) (
+    let P : FoundSegment → Type 0 = λ s. SearchesSegment marks declared c.args.asked.segment.since (g.W.Watch.seconds c.args.watch.now) c.args.asked.search.budget c.args.asked.search.forced (Ok s) in
+    subst P (sym c.unfound.ensures) (
       searched.0,
-      gives_up marks declared c.args.asked.segment.since c.in-GaveUp.count (g.W.Watch.seconds c.args.watch.now) c.args.asked.budget r
-          (found_so marks declared (g.W.Watch.seconds c.args.watch.now) c.args.asked.budget c.in-Ok.searched.found (GaveUp c.in-GaveUp.count) c.in-GaveUp.is searched.1),
+      gives_up marks declared c.args.asked.segment.since c.in-GaveUp.count (g.W.Watch.seconds c.args.watch.now) c.args.asked.search.budget r
+          (found_so marks declared (g.W.Watch.seconds c.args.watch.now) c.args.asked.search.budget c.in-Ok.searched.found (GaveUp c.in-GaveUp.count) c.in-GaveUp.is searched.1),
       refl,
     )
 
@@ -33,10 +33,12 @@ pub returns-in-Refuted : goal.returns-in-Refuted
 returns-in-Refuted g c = λ r.
     let marks = transcript_of c.args.transcript.now in
     let declared = declaration_of c.args.declaration.now in
-    let searched = c.in-Ok.ensures r in (
+    let searched = c.in-Ok.ensures r in
+    let P : FoundSegment → Type 0 = λ s. SearchesSegment marks declared c.args.asked.segment.since (g.W.Watch.seconds c.args.watch.now) c.args.asked.search.budget c.args.asked.search.forced (Ok s) in
+    subst P (sym c.unfound-in-Refuted.ensures) (
       searched.0,
-      refutes marks declared c.args.asked.segment.since c.in-Refuted.count (g.W.Watch.seconds c.args.watch.now) c.args.asked.budget c.in-Refuted.object
-          (found_so marks declared (g.W.Watch.seconds c.args.watch.now) c.args.asked.budget c.in-Ok.searched.found (Refuted c.in-Refuted.count c.in-Refuted.object) c.in-Refuted.is searched.1),
+      refutes marks declared c.args.asked.segment.since c.in-Refuted.count (g.W.Watch.seconds c.args.watch.now) c.args.asked.search.budget c.in-Refuted.objects
+          (found_so marks declared (g.W.Watch.seconds c.args.watch.now) c.args.asked.search.budget c.in-Ok.searched.found (Refuted c.in-Refuted.count c.in-Refuted.objects) c.in-Refuted.is searched.1),
       refl,
     )
 
@@ -44,10 +46,12 @@ pub returns-in-Impossible : goal.returns-in-Impossible
 returns-in-Impossible g c = λ r.
     let marks = transcript_of c.args.transcript.now in
     let declared = declaration_of c.args.declaration.now in
-    let searched = c.in-Ok.ensures r in (
+    let searched = c.in-Ok.ensures r in
+    let P : FoundSegment → Type 0 = λ s. SearchesSegment marks declared c.args.asked.segment.since (g.W.Watch.seconds c.args.watch.now) c.args.asked.search.budget c.args.asked.search.forced (Ok s) in
+    subst P (sym c.unfound-in-Impossible.ensures) (
       searched.0,
-      never_explained marks declared c.args.asked.segment.since c.in-Impossible.count (g.W.Watch.seconds c.args.watch.now) c.args.asked.budget c.in-Impossible.call
-          (found_so marks declared (g.W.Watch.seconds c.args.watch.now) c.args.asked.budget c.in-Ok.searched.found (Impossible c.in-Impossible.count c.in-Impossible.call) c.in-Impossible.is searched.1),
+      never_explained marks declared c.args.asked.segment.since c.in-Impossible.count (g.W.Watch.seconds c.args.watch.now) c.args.asked.search.budget c.in-Impossible.call
+          (found_so marks declared (g.W.Watch.seconds c.args.watch.now) c.args.asked.search.budget c.in-Ok.searched.found (Impossible c.in-Impossible.count c.in-Impossible.call) c.in-Impossible.is searched.1),
       refl,
     )
 
@@ -55,8 +59,10 @@ pub returns-in-OutOfTime : goal.returns-in-OutOfTime
 returns-in-OutOfTime g c = λ r.
     let marks = transcript_of c.args.transcript.now in
     let declared = declaration_of c.args.declaration.now in
-    let searched = c.in-Ok.ensures r in (
+    let searched = c.in-Ok.ensures r in
+    let P : FoundSegment → Type 0 = λ s. SearchesSegment marks declared c.args.asked.segment.since (g.W.Watch.seconds c.args.watch.now) c.args.asked.search.budget c.args.asked.search.forced (Ok s) in
+    subst P (sym c.unfound-in-OutOfTime.ensures) (
       searched.0,
-      found_so marks declared (g.W.Watch.seconds c.args.watch.now) c.args.asked.budget c.in-Ok.searched.found (OutOfTime c.in-OutOfTime.count c.in-OutOfTime.after) c.in-OutOfTime.is searched.1,
+      found_so marks declared (g.W.Watch.seconds c.args.watch.now) c.args.asked.search.budget c.in-Ok.searched.found (OutOfTime c.in-OutOfTime.count c.in-OutOfTime.after) c.in-OutOfTime.is searched.1,
       refl,
     )

@@ -31,7 +31,7 @@ returns-in-Ok-clause-leads g c = λ done.
     let made = appended_bytes c.args.out.now.made.items c.tell_segment.new.made.items in
     let left_made = appended_bytes c.args.out.now.left.items c.tell_segment.new.left.items in
     let found = c.in-Ok.ensures.searches (came_of t) (came_of d) (itself t) (itself d) in (
-      done_found c.in-Ok.known.segment (came_of t) (came_of d) c.args.asked.segment.since (g.W.Watch.seconds c.args.watch.now) c.args.asked.budget c.args.asked.forced c.tell_segment.result lines made left_made found done c.args.asked.segment.leaves c.tell_segment.ensures.tells,
+      done_found c.in-Ok.known.segment (came_of t) (came_of d) c.args.asked.segment.since (g.W.Watch.seconds c.args.watch.now) c.args.asked.search.budget c.args.asked.search.forced c.tell_segment.result lines made left_made found done c.args.asked.segment.leaves c.tell_segment.ensures.tells,
       c.in-Ok.ensures.ended.0,
       c.in-Ok.ensures.ended.1,
     )
