@@ -5,3 +5,10 @@ pub mod ForcedLemmas
 pub mod UnexplainedLemmas
 pub mod ScanLemmas
 pub mod SightLemmas
+pub mod EachLemmas
+pub mod ChoiceLemmas
+pub mod BoardLemmas
+pub mod DeadLemmas
+pub mod StandLemmas
+pub mod MissedLemmas
+pub mod TriedLemmas

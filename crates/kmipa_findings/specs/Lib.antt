@@ -4,3 +4,9 @@ pub mod Told
 pub mod Outcomes
 pub mod Trying
 pub mod Walking
+pub mod Seeking
+pub mod Descending
+pub mod Choices
+pub mod Flags
+pub mod Boards
+pub mod Exhausting

@@ -20,7 +20,7 @@ pub(crate) fn copied_turns(alloc: Global, turns: &[Turn]) -> Result<Vec<Turn>, A
 }
 
 /// An equal turn.
-pub(crate) fn copied_turn(alloc: Global, turn: &Turn) -> Result<Turn, AllocError>
+pub fn copied_turn(alloc: Global, turn: &Turn) -> Result<Turn, AllocError>
     ensures { IfOk result (λ copy. turn_of copy ≡ turn_of turn.now) }
 {
     let answer = copied_answer(alloc, &turn.answer)?;

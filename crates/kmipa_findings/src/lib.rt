@@ -3,24 +3,37 @@
 
 mod along;
 mod basis;
+mod board;
 mod calls;
 mod confirming;
 mod copying;
 mod deciding;
+mod descending;
 mod finding;
+mod forced;
+mod guessing;
 mod judging;
+mod left;
+mod line;
+mod missed;
 mod ordering;
+mod owning;
 mod pace;
 mod proposal;
 mod proposing;
 mod ranking;
 mod road;
+mod seeking;
 mod setting;
+mod trial;
 mod trying;
 mod walking;
 
 pub use along::judge_along;
+pub use copying::copied_turn;
 pub use finding::{Finding, Judged, Outcome, Undecided};
+pub use forced::is_forced_beside;
 pub use judging::judge;
 pub use ordering::judge_order;
 pub use pace::{Pace, Unpaced};
+pub use seeking::{Order, Sought, order_of, seek};

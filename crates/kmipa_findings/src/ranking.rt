@@ -1,5 +1,8 @@
 //! In which order calls are tried that may be next.
 
+ghost use Rattle.std.specs.Prelude.{◌≡◌};
+ghost use Rattle.kmipa_turns.specs.Steps.{moment_of, step_of};
+
 use kmipa_msgs::{Answer, Ask, Asked, Status};
 use kmipa_passed::{Outcome, Sort};
 use kmipa_places::Place;
@@ -17,20 +20,33 @@ enum Effect {
 
 /// A call among others: its moment, what it does, the place of its end mark, and its own place.
 #[derive(Clone, Copy, PartialEq, Eq, PartialOrd, Ord)]
-struct Candidate {
-    moment: Option<i64>,
+pub(crate) struct Candidate {
+    pub moment: Option<i64>,
     effect: Effect,
-    end: usize,
+    pub end: usize,
     place: usize,
 }
 
 /// The rank of the call of each step: calls are tried from the least rank on.
 pub(crate) fn ranks_of(alloc: Global, steps: &[Step]) -> Result<Vec<usize>, AllocError> {
-    let mut ranks = Vec::with_capacity(alloc, steps.len())?;
-    'steps: for _ in 0..steps.len() {
+    let mut candidates = Vec::with_capacity(alloc, steps.len())?;
+    'steps: for (place, step) in steps.iter().enumerate() {
+        candidates.push(candidate_of(place, step))?;
+    }
+    ranks_by(alloc, candidates)
+}
+
+/// The ranks of these calls, which are all.
+pub(crate) fn ranks_by(
+    alloc: Global,
+    candidates: Vec<Candidate>,
+) -> Result<Vec<usize>, AllocError> {
+    let mut candidates = candidates;
+    let mut ranks = Vec::with_capacity(alloc, candidates.len())?;
+    'places: for _ in 0..candidates.len() {
         ranks.push(0)?;
     }
-    let candidates = sorted(alloc, steps)?;
+    candidates.sort_unstable();
     'candidates: for (rank, candidate) in candidates.iter().enumerate() {
         if candidate.place < ranks.len() {
             ranks[candidate.place] = rank;
@@ -39,23 +55,30 @@ pub(crate) fn ranks_of(alloc: Global, steps: &[Step]) -> Result<Vec<usize>, Allo
     Ok(ranks)
 }
 
-/// The calls of these steps, from the one on that is tried first.
-fn sorted(alloc: Global, steps: &[Step]) -> Result<Vec<Candidate>, AllocError> {
-    let mut candidates = Vec::with_capacity(alloc, steps.len())?;
-    'steps: for (place, step) in steps.iter().enumerate() {
-        candidates.push(Candidate {
-            moment: moment_of(step),
-            effect: effect_of(step),
-            end: step.end.unwrap_or(usize::MAX),
-            place,
-        })?;
+/// The call at this place, which makes this step.
+pub(crate) fn candidate_of(place: usize, step: &Step) -> Candidate {
+    Candidate {
+        moment: moment_of(step),
+        effect: effect_of(step),
+        end: step.end.unwrap_or(usize::MAX),
+        place,
     }
-    candidates.sort_unstable();
-    Ok(candidates)
+}
+
+/// A call at this place that leaves nothing behind.
+pub(crate) fn bringing_nothing(place: usize, moment: i64, end: Option<usize>) -> Candidate {
+    Candidate {
+        moment: Some(moment),
+        effect: Effect::Looks,
+        end: end.unwrap_or(usize::MAX),
+        place,
+    }
 }
 
 /// The moment of a step; none where its call can't be read.
-pub(crate) fn moment_of(step: &Step) -> Option<i64> {
+pub(crate) fn moment_of(step: &Step) -> Option<i64>
+    ensures { result ≡ moment_of (step_of step.now) }
+{
     match &step.taken {
         Taken::Leaves(_, _) => None,
         Taken::Takes(call, _) => Some(call.stamp),

@@ -1,0 +1,14 @@
+use Rattle.std.proofs.Common.{◌≤◌, map, length}
+use Rattle.kmipa_turns.specs.Steps.{step_of}
+use Rattle.kmipa_findings.proofs.ChoiceLemmas.{BeginFrom, IsNoLater, TwoFrom}
+use Rattle.kmipa_findings.proofs.forced.are_rising.Given as goal
+
+abbrev pub invariant-steps : goal.invariant-steps
+invariant-steps l = record {
+  within : l.place ≤ length l.steps;
+  behind : BeginFrom (map step_of l.steps) l.place l.least;
+  two : TwoFrom IsNoLater (map step_of l.steps) l.place;
+}
+
+abbrev pub decreases-steps : goal.decreases-steps
+decreases-steps l = l.place
