@@ -1,9 +1,14 @@
 mod ClientLemmas
 mod FormLemmas
 mod HeldLemmas
+mod IndentLemmas
 mod LineLemmas
+mod NumberingLemmas
 mod ObjectLemmas
+mod PartLemmas
 mod RuleLemmas
 mod RunLemmas
 mod StatusLemmas
 mod UnjudgedLemmas
+pub mod PlainLemmas
+pub mod FoundLemmas

@@ -5,6 +5,7 @@ use Rattle.serde_json.specs.Data.{Items, Members, item, object}
 use Rattle.kmipa_findings.specs.Told.{finding_of}
 use Rattle.kmipa_findings.specs.declared.finding.Finding.{Finding}
 use Rattle.kmipa_telling.specs.Lists.{AreObjects, objects}
+use Rattle.kmipa_judge.specs.Lines.{Meaning}
 use Rattle.kmipa_judge.specs.Object.{TellsFinding}
 
 -- objects of what each means are those of each
@@ -18,13 +19,13 @@ told_meant meaning members [] = refl
 told_meant meaning members (x ∷ xs) = ap (item (object (members (meaning x)))) (told_meant meaning members xs)
 
 -- an object of each finding, as far as the loop came
-abbrev pub AreFoundSoFar : List Finding → ℕ → Items → Type 0
-AreFoundSoFar fs i told = AreObjects (λ f. TellsFinding (finding_of f)) (take i fs) told
+abbrev pub AreFoundSoFar : Meaning → List Finding → ℕ → Items → Type 0
+AreFoundSoFar Means fs i told = AreObjects (λ f. TellsFinding Means (finding_of f)) (take i fs) told
 
-pub found_all : (fs : List Finding) (i : ℕ) (told : Items) → length fs ≤ i → AreFoundSoFar fs i told → AreObjects TellsFinding (map finding_of fs) told
-found_all fs i told all so =
-    let P : List Finding → Type 0 = λ xs. AreObjects (λ f. TellsFinding (finding_of f)) xs told in
-    objects_meant finding_of TellsFinding fs told (subst P (take_all i fs all) so)
+pub found_all : (Means : Meaning) (fs : List Finding) (i : ℕ) (told : Items) → length fs ≤ i → AreFoundSoFar Means fs i told → AreObjects (TellsFinding Means) (map finding_of fs) told
+found_all Means fs i told all so =
+    let P : List Finding → Type 0 = λ xs. AreObjects (λ f. TellsFinding Means (finding_of f)) xs told in
+    objects_meant finding_of (TellsFinding Means) fs told (subst P (take_all i fs all) so)
 
 -- an object of each
 pub told_all : {A : Type 0} (members : A → Members) (xs : List A) (i : ℕ) (told : Items) → length xs ≤ i → told ≡ objects members (take i xs) → told ≡ objects members xs

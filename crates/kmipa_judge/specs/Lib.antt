@@ -2,6 +2,9 @@ pub mod Declaring
 pub mod Clients
 pub mod Opinions
 pub mod Rules
+pub mod Renumbered
+pub mod Parts
+pub mod Indented
 pub mod Lines
 pub mod Unjudged
 pub mod Object
@@ -9,3 +12,4 @@ pub mod Forms
 pub mod Reading
 pub mod Runs
 pub mod Statuses
+pub mod Searches

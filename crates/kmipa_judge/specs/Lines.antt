@@ -1,15 +1,18 @@
 -- WHAT IS PRINTED OF A JUDGING (profile).
-use Rattle.std.specs.Prelude.{◌≡◌, ℕ, ◌+◌, Bool, true, false, List, [], ◌∷◌, ◌++◌, length, codes, Option, Some, None, flat_map}
+use Rattle.std.specs.Prelude.{◌≡◌, ℕ, ◌+◌, Bool, true, false, List, [], ◌∷◌, ◌++◌, length, codes, Option, Some, None, IfSome, flat_map}
 use Rattle.std.specs.Fmt.{decimal, signed_decimal}
 use Rattle.kmipa_ops.specs.Whys.{why_number, why_name}
 use Rattle.kmipa_check.specs.declared.verdict.Refused.{Refused}
+use Rattle.kmipa_explain.specs.declared.explanation.Explanation.{Explanation}
 use Rattle.kmipa_trail.specs.Told.{tally_of}
 use Rattle.kmipa_findings.specs.Findings.{FindingOf}
 use Rattle.kmipa_findings.specs.declared.finding.Outcome.{Outcome}
 use Rattle.kmipa_findings.specs.declared.finding.Outcome.TheVariants as outcome
 use Rattle.kmipa_runs.specs.Lines.{line}
 use Rattle.kmipa_jobs.specs.declared.status.Status.{Status}
+use Rattle.kmipa_telling.specs.Explaining.{PrintsMore}
 use Rattle.kmipa_beside.specs.Lines.{PrintsStamp, judged_line}
+use Rattle.kmipa_judge.specs.Indented.{indented}
 use Rattle.kmipa_judge.specs.Opinions.{findings_of, opinion_of, opinion_status, steps_of}
 use Rattle.kmipa_judge.specs.Rules.{explained_line}
 use Rattle.kmipa_judge.specs.declared.rule.Rule.{Rule}
@@ -38,14 +41,22 @@ refused_part r = line (codes ": turn " ∷ decimal r.turn ∷ codes " call " ∷
 abbrev pub finding_line : ℕ → Refused → List ℕ
 finding_line number r = codes "finding " ++ (decimal number ++ refused_part r)
 
--- and behind it the date of its call's response
-abbrev pub PrintsFinding : ℕ → FindingOf → List ℕ → Type 0
-PrintsFinding number f lines = (dated : List ℕ) × PrintsStamp f.stamp dated × (lines ≡ finding_line number f.refused ++ dated)
+-- what findings mean: these explanations are right
+abbrev pub Meaning : Type 1
+Meaning = FindingOf → Explanation → Type 0
+
+-- what a finding means: nothing, or behind two blanks each the lines of an explanation
+abbrev pub PrintsMeaning : Meaning → FindingOf → List ℕ → Type 0
+PrintsMeaning Means f lines = (e : Option Explanation) × (text : List ℕ) × IfSome e (Means f) × PrintsMore e text × (lines ≡ indented text)
+
+-- and behind it the date of its call's response, and what it means
+abbrev pub PrintsFinding : Meaning → ℕ → FindingOf → List ℕ → Type 0
+PrintsFinding Means number f lines = (dated more : List ℕ) × PrintsStamp f.stamp dated × PrintsMeaning Means f more × (lines ≡ finding_line number f.refused ++ (dated ++ more))
 
 -- the lines of findings, of which the first has this number
-abbrev pub PrintsFindings : ℕ → List FindingOf → List ℕ → Type 0
-PrintsFindings number [] lines = lines ≡ []
-PrintsFindings number (f ∷ fs) lines = (one more : List ℕ) × PrintsFinding number f one × PrintsFindings (number + 1) fs more × (lines ≡ one ++ more)
+abbrev pub PrintsFindings : Meaning → ℕ → List FindingOf → List ℕ → Type 0
+PrintsFindings Means number [] lines = lines ≡ []
+PrintsFindings Means number (f ∷ fs) lines = (one more : List ℕ) × PrintsFinding Means number f one × PrintsFindings Means (number + 1) fs more × (lines ≡ one ++ more)
 
 -- the line that so many seconds are over, where they are
 abbrev pub over_line : Option ℕ → List ℕ
@@ -57,9 +68,9 @@ abbrev pub last_lines : Outcome → List ℕ
 last_lines (outcome.Judged j) = judged_line (tally_of j.tally).counts
 last_lines (outcome.Undecided u) = over_line u.over
 
--- By whether nothing is declared, and by which rules every answer is explained: the lines of an outcome, and the status that goes with them.
-pub record PrintsOutcome (assumed : Bool) (o : Outcome) (rules : List Rule) (said : Status) (lines : List ℕ) : Type 0 where
+-- By what findings mean, whether nothing is declared, and by which rules every answer is explained: the lines of an outcome, and the status that goes with them.
+pub record PrintsOutcome (Means : Meaning) (assumed : Bool) (o : Outcome) (rules : List Rule) (said : Status) (lines : List ℕ) : Type 0 where
   pub found : List ℕ
-  pub findings : PrintsFindings 1 (findings_of o) found
+  pub findings : PrintsFindings Means 1 (findings_of o) found
   pub ends : said ≡ opinion_status (opinion_of o)
   pub are : lines ≡ first_line (opinion_of o) (length (findings_of o)) (steps_of o) ++ (assumed_line assumed ++ (found ++ (flat_map explained_line rules ++ last_lines o)))

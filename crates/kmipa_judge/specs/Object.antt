@@ -1,5 +1,5 @@
 -- WHAT IS TOLD IN JSON OF A JUDGING (profile): what its lines say, each under a name of its own, in an object that has some members already.
-use Rattle.std.specs.Prelude.{◌≡◌, ℕ, Bool, true, false, List, codes, Option, Some, None}
+use Rattle.std.specs.Prelude.{◌≡◌, ℕ, Bool, true, false, List, codes, Option, Some, None, IfSome}
 use Rattle.serde_json.specs.Data.{Items, Members, array, boolean, no_members, object, put, string}
 use Rattle.kmipa_json.specs.Told.{count, integer, line_of}
 use Rattle.kmipa_ops.specs.Whys.{why_number, why_name}
@@ -9,6 +9,7 @@ use Rattle.kmipa_check.specs.declared.verdict.Refused.{Refused}
 use Rattle.kmipa_record.specs.Declarations.{DeclarationOf}
 use Rattle.kmipa_record.specs.Marks.{MarkOf}
 use Rattle.kmipa_record.specs.Witnesses.{TurnOf, witness_of}
+use Rattle.kmipa_explain.specs.declared.explanation.Explanation.{Explanation}
 use Rattle.kmipa_trail.specs.Told.{tally_of}
 use Rattle.kmipa_findings.specs.Findings.{FindingOf}
 use Rattle.kmipa_findings.specs.declared.finding.Outcome.{Outcome}
@@ -17,9 +18,12 @@ use Rattle.kmipa_unjudged.specs.Told.{NamedOf}
 use Rattle.kmipa_unjudged.specs.Unjudged.{IsUnjudged}
 use Rattle.kmipa_unjudged.specs.declared.rank.Rank.{Rank}
 use Rattle.kmipa_jobs.specs.declared.status.Status.{Status}
+use Rattle.kmipa_telling.specs.Claims.{TellsMeaning}
 use Rattle.kmipa_telling.specs.Lists.{AreObjects, objects}
 use Rattle.kmipa_telling.specs.Telling.{TellsDate, TellsFault, named_under, verdict_named}
+use Rattle.kmipa_judge.specs.Lines.{Meaning}
 use Rattle.kmipa_judge.specs.Opinions.{findings_of, opinion_of, opinion_status}
+use Rattle.kmipa_judge.specs.Parts.{IsMeaning}
 use Rattle.kmipa_judge.specs.Rules.{rule_text}
 use Rattle.kmipa_judge.specs.Unjudged.{operation_text}
 use Rattle.kmipa_judge.specs.declared.opinion.Opinion.{Opinion}
@@ -46,14 +50,14 @@ abbrev pub refused_members : Refused → Members
 refused_members r = named_under (codes "why") (why_number r.why) (why_name r.why)
     (put (codes "item") (count r.item) (put (codes "call") (integer r.call) (put (codes "turn") (count r.turn) no_members)))
 
--- and the Time Stamp of its call's response, where there is one
-abbrev pub TellsFinding : FindingOf → Members → Type 0
-TellsFinding f told = TellsDate f.stamp (refused_members f.refused) told
+-- and the Time Stamp of its call's response, where there is one; and what it means, where it is explained
+abbrev pub TellsFinding : Meaning → FindingOf → Members → Type 0
+TellsFinding Means f told = (e : Option Explanation) × (before : Members) × IfSome e (Means f) × TellsDate f.stamp (refused_members f.refused) before × TellsMeaning e before told
 
 -- the word, whether nothing is declared, and all findings; and the status that goes with it
-pub record TellsFound (assumed : Bool) (o : Outcome) (said : Status) (before after : Members) : Type 0 where
+pub record TellsFound (Means : Meaning) (assumed : Bool) (o : Outcome) (said : Status) (before after : Members) : Type 0 where
   pub found : Items
-  pub findings : AreObjects TellsFinding (findings_of o) found
+  pub findings : AreObjects (TellsFinding Means) (findings_of o) found
   pub ends : said ≡ opinion_status (opinion_of o)
   pub are : after ≡ put (codes "findings") (array found) (assumed_told assumed (verdict_named (opinion_name (opinion_of o)) before))
 
@@ -121,7 +125,7 @@ rules_told rules told = put (codes "explained_with") (array (objects rule_member
 -- THE DEFINITION: the line of an object that has these members, and besides them those of an outcome and of rules; and the status that goes with them
 pub record TellsWhole (before : Members) (assumed : Bool) (marks : List MarkOf) (declared : DeclarationOf) (o : Outcome) (rules : List Rule) (said : Status) (lines : List ℕ) : Type 0 where
   pub front : Members
-  pub found : TellsFound assumed o said before front
+  pub found : TellsFound (IsMeaning marks declared o) assumed o said before front
   pub told : Members
   pub behind : TellsBehind marks declared o front told
   pub are : lines ≡ line_of (object (rules_told rules told))

@@ -27,6 +27,7 @@ use Rattle.kmipa_judge.specs.Forms.{ahead}
 use Rattle.kmipa_judge.specs.Lines.{PrintsOutcome}
 use Rattle.kmipa_judge.specs.Object.{TellsFaultWhole, TellsWhole}
 use Rattle.kmipa_judge.specs.Opinions.{IsFair}
+use Rattle.kmipa_judge.specs.Parts.{IsMeaning}
 use Rattle.kmipa_judge.specs.Rules.{AreExplaining}
 use Rattle.kmipa_judge.specs.Unjudged.{PrintsUnjudged}
 use Rattle.kmipa_judge.specs.declared.form.JudgeForm.{JudgeForm}
@@ -46,7 +47,7 @@ Makes declared (Undecided u) witness declaration = MakesNothing witness declarat
 -- All lines of an outcome and of these rules, and the status that goes with them: behind its own those of what isn't judged.
 pub record PrintsWhole (assumed : Bool) (marks : List MarkOf) (declared : DeclarationOf) (o : Outcome) (rules : List Rule) (said : Status) (lines : List ℕ) : Type 0 where
   pub front : List ℕ
-  pub prints : PrintsOutcome assumed o rules said front
+  pub prints : PrintsOutcome (IsMeaning marks declared o) assumed o rules said front
   pub behind : List ℕ
   pub unjudged : PrintsUnjudged marks declared o behind
   pub are : lines ≡ front ++ behind

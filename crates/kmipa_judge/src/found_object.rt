@@ -2,37 +2,45 @@
 
 ghost use Rattle.std.specs.Prelude.{◌≡◌, ◌+◌, IfOk, OnOk, map};
 ghost use Rattle.kmipa_bundle.specs.Counts.{total};
+ghost use Rattle.kmipa_record.specs.Declarations.{AreDeclared, declaration_of};
+ghost use Rattle.kmipa_record.specs.Marks.{AreRecorded};
+ghost use Rattle.kmipa_record.specs.Transcripts.{transcript_of};
 ghost use Rattle.kmipa_findings.specs.Told.{finding_of};
 ghost use Rattle.kmipa_json.specs.Told.{items_of, members_of};
 ghost use Rattle.kmipa_judge.specs.Object.{TellsFinding, TellsFound, aside_members, assumed_told, opinion_name, refused_members, steps_told, tally_members};
+ghost use Rattle.kmipa_judge.specs.Parts.{IsMeaning};
 ghost use Rattle.kmipa_telling.specs.Lists.{AreObjects};
 ghost use Rattle.kmipa_telling.specs.Telling.{TellsDate};
 ghost use Rattle.kmipa_trail.specs.Told.{tally_of};
 
 use crate::opinion::{Opinion, findings_of, opinion_of, opinion_status};
+use crate::part::{Meanings, meaning_of};
 use kmipa_check::Refused;
-use kmipa_findings::{Finding, Outcome};
+use kmipa_findings::Finding;
 use kmipa_jobs::Status;
 use kmipa_json::{JsonList, JsonObject};
 use kmipa_runs::date_text;
-use kmipa_telling::named;
+use kmipa_telling::{named, tell_meaning};
 use kmipa_trail::Tally;
 use std::alloc::{AllocError, Global};
 
-/// Puts what is said of an outcome in a word, whether nothing is declared, and all findings into an object, and answers the status.
+/// Puts what is said of an outcome in a word, whether nothing is declared, and all findings with what they mean into an object, and answers the status.
 pub(crate) fn tell_found(
     alloc: Global,
     told: &mut JsonObject,
-    outcome: &Outcome,
-    assumed: bool,
+    meanings: Meanings,
 ) -> Result<Status, AllocError>
-    ensures { IfOk result
-        (λ status. TellsFound assumed outcome.now status (members_of told.old) (members_of told.new)) }
+    requires recorded { AreRecorded (transcript_of meanings.records.now.transcript) }
+    requires declared { AreDeclared (declaration_of meanings.records.now.declaration) }
+    ensures { IfOk result (λ status. TellsFound (IsMeaning (transcript_of meanings.entry.records.now.transcript)
+        (declaration_of meanings.entry.records.now.declaration) meanings.entry.outcome.now)
+        meanings.entry.records.now.assumed meanings.entry.outcome.now status (members_of told.old) (members_of told.new)) }
 {
-    let opinion = opinion_of(outcome);
+    let opinion = opinion_of(meanings.outcome);
     told.put_text("verdict", opinion_name(opinion))?;
-    tell_assumed(told, assumed)?;
-    told.put_list("findings", finding_list(alloc, findings_of(outcome))?)?;
+    tell_assumed(told, meanings.records.assumed)?;
+    let findings = finding_list(alloc, meanings, findings_of(meanings.outcome))?;
+    told.put_list("findings", findings)?;
     Ok(opinion_status(opinion))
 }
 
@@ -61,24 +69,44 @@ fn tell_assumed(told: &mut JsonObject, assumed: bool) -> Result<(), AllocError>
 }
 
 /// All findings.
-fn finding_list(alloc: Global, findings: &[Finding]) -> Result<JsonList, AllocError>
-    ensures { IfOk result (λ list. AreObjects TellsFinding (map finding_of findings.now) (items_of list)) }
+fn finding_list<'a>(
+    alloc: Global,
+    meanings: Meanings<'_, 'a>,
+    findings: &'a [Finding],
+) -> Result<JsonList, AllocError>
+    requires recorded { AreRecorded (transcript_of meanings.records.now.transcript) }
+    requires declared { AreDeclared (declaration_of meanings.records.now.declaration) }
+    ensures { IfOk result (λ list. AreObjects (TellsFinding (IsMeaning (transcript_of meanings.entry.records.now.transcript)
+        (declaration_of meanings.entry.records.now.declaration) meanings.entry.outcome.now))
+        (map finding_of findings.now) (items_of list)) }
 {
     let mut list = JsonList::new(alloc);
     let mut count = 0;
     'findings: while count < findings.len() {
-        let one = finding_object(alloc, &findings[count])?;
+        let one = finding_object(alloc, meanings, count + 1, &findings[count])?;
         list.push_object(one)?;
         count += 1;
     }
     Ok(list)
 }
 
-fn finding_object(alloc: Global, finding: &Finding) -> Result<JsonObject, AllocError>
-    ensures { IfOk result (λ told. TellsFinding (finding_of finding.now) (members_of told)) }
+/// The finding with this number.
+fn finding_object<'a>(
+    alloc: Global,
+    meanings: Meanings<'_, 'a>,
+    number: usize,
+    finding: &'a Finding,
+) -> Result<JsonObject, AllocError>
+    requires recorded { AreRecorded (transcript_of meanings.records.now.transcript) }
+    requires declared { AreDeclared (declaration_of meanings.records.now.declaration) }
+    ensures { IfOk result (λ told. TellsFinding (IsMeaning (transcript_of meanings.entry.records.now.transcript)
+        (declaration_of meanings.entry.records.now.declaration) meanings.entry.outcome.now)
+        (finding_of finding.now) (members_of told)) }
 {
     let mut told = refused_object(alloc, &finding.refused)?;
     tell_date(alloc, &mut told, finding.stamp)?;
+    let meaning = meaning_of(alloc, meanings, number, finding)?;
+    tell_meaning(alloc, &mut told, &meaning)?;
     Ok(told)
 }
 

@@ -23,6 +23,7 @@ use crate::found_object::{tally_object, tell_found, tell_steps};
 use crate::lines::outcome_lines;
 use crate::opinion::findings_of;
 use crate::paced::Paced;
+use crate::part::{Advice, Meanings};
 use crate::reduced::find_reduced;
 use crate::rule::Rule;
 use crate::rule_object::tell_rules;
@@ -69,7 +70,8 @@ pub(crate) fn judge_records<W: Watch + Drop>(
     budget: u64,
     watch: W,
 ) -> JudgeRun
-    requires { AreDeclared (declaration_of records.declaration) }
+    requires recorded { AreRecorded (transcript_of records.transcript) }
+    requires declared { AreDeclared (declaration_of records.declaration) }
     ensures told { AreRecorded (transcript_of records.transcript)
         → JudgesRecords (W.seconds watch) (option_map members_of opened) records.assumed (transcript_of records.transcript)
         (declaration_of records.declaration) result.status result.lines.items result.witness.items
@@ -97,7 +99,8 @@ fn tell_with_rules<W: Watch + Drop>(
     budget: u64,
     watch: &W,
 ) -> JudgeRun
-    requires { AreDeclared (declaration_of records.now.declaration) }
+    requires recorded { AreRecorded (transcript_of records.now.transcript) }
+    requires declared { AreDeclared (declaration_of records.now.declaration) }
     ensures told { (seconds : ℕ) → AreRecorded (transcript_of records.now.transcript)
         → Judges seconds (transcript_of records.now.transcript) (declaration_of records.now.declaration) outcome.now
         → IsFair (is_presumed records.now.assumed (declaration_of records.now.declaration).settings.visibility)
@@ -226,7 +229,8 @@ fn tell_outcome(
     rules: &[Rule],
     telling: Telling,
 ) -> JudgeRun
-    requires { AreDeclared (declaration_of records.now.declaration) }
+    requires recorded { AreRecorded (transcript_of records.now.transcript) }
+    requires declared { AreDeclared (declaration_of records.now.declaration) }
     ensures told { AreRecorded (transcript_of records.now.transcript)
         → (Prints (option_map members_of telling.opened) records.now.assumed (transcript_of records.now.transcript)
         (declaration_of records.now.declaration) outcome.now rules.now result.status result.lines.items
@@ -258,33 +262,58 @@ fn all_told(
     outcome: &Outcome,
     rules: &[Rule],
 ) -> Result<Lines, Fault>
-    requires { AreDeclared (declaration_of records.now.declaration) }
+    requires recorded { AreRecorded (transcript_of records.now.transcript) }
+    requires declared { AreDeclared (declaration_of records.now.declaration) }
     ensures { AreRecorded (transcript_of records.now.transcript) → IfOk result (λ lines.
         Prints (option_map members_of opened) records.now.assumed (transcript_of records.now.transcript)
         (declaration_of records.now.declaration) outcome.now rules.now lines.status (string_bytes lines.text)) }
 {
+    let advice = advice_on(alloc, records, outcome)?;
+    let meanings = Meanings {
+        records,
+        outcome,
+        advice: &advice,
+    };
     match opened {
-        None => all_lines(alloc, records, outcome, rules),
-        Some(told) => whole_object(alloc, records, told, outcome, rules),
+        None => all_lines(alloc, meanings, rules),
+        Some(told) => whole_object(alloc, told, meanings, rules),
+    }
+}
+
+/// What is known of the calls of a recording, where something was found in it.
+fn advice_on<'a>(
+    alloc: Global,
+    records: &'a Records,
+    outcome: &'a Outcome,
+) -> Result<Option<Advice<'a>>, Fault> {
+    match outcome {
+        Outcome::Judged(judged) if !judged.findings.is_empty() => Ok(Advice::of(
+            alloc,
+            &records.transcript,
+            &records.declaration,
+            &judged.witness.turns,
+        )?),
+        _ => Ok(None),
     }
 }
 
 /// The line of an object that gets besides what it has all that is told of an outcome.
 fn whole_object(
     alloc: Global,
-    records: &Records,
     told: JsonObject,
-    outcome: &Outcome,
+    meanings: Meanings,
     rules: &[Rule],
 ) -> Result<Lines, Fault>
-    requires { AreDeclared (declaration_of records.now.declaration) }
-    ensures { AreRecorded (transcript_of records.now.transcript) → IfOk result (λ lines.
-        TellsWhole (members_of told) records.now.assumed (transcript_of records.now.transcript)
-        (declaration_of records.now.declaration) outcome.now rules.now lines.status (string_bytes lines.text)) }
+    requires recorded { AreRecorded (transcript_of meanings.records.now.transcript) }
+    requires declared { AreDeclared (declaration_of meanings.records.now.declaration) }
+    ensures { AreRecorded (transcript_of meanings.entry.records.now.transcript) → IfOk result (λ lines.
+        TellsWhole (members_of told) meanings.entry.records.now.assumed
+        (transcript_of meanings.entry.records.now.transcript) (declaration_of meanings.entry.records.now.declaration)
+        meanings.entry.outcome.now rules.now lines.status (string_bytes lines.text)) }
 {
     let mut told = told;
-    let status = tell_found(alloc, &mut told, outcome, records.assumed)?;
-    tell_behind(alloc, &mut told, records, outcome)?;
+    let status = tell_found(alloc, &mut told, meanings)?;
+    tell_behind(alloc, &mut told, meanings.records, meanings.outcome)?;
     tell_rules(alloc, &mut told, rules)?;
     let text = told.into_line()?;
     Ok(Lines { text, status })
@@ -332,19 +361,16 @@ fn tell_along(
 }
 
 /// All lines of an outcome and of these rules: behind its own those of what isn't judged.
-fn all_lines(
-    alloc: Global,
-    records: &Records,
-    outcome: &Outcome,
-    rules: &[Rule],
-) -> Result<Lines, Fault>
-    requires { AreDeclared (declaration_of records.now.declaration) }
-    ensures { AreRecorded (transcript_of records.now.transcript) → IfOk result (λ lines.
-        PrintsWhole records.now.assumed (transcript_of records.now.transcript)
-        (declaration_of records.now.declaration) outcome.now rules.now lines.status (string_bytes lines.text)) }
+fn all_lines(alloc: Global, meanings: Meanings, rules: &[Rule]) -> Result<Lines, Fault>
+    requires recorded { AreRecorded (transcript_of meanings.records.now.transcript) }
+    requires declared { AreDeclared (declaration_of meanings.records.now.declaration) }
+    ensures { AreRecorded (transcript_of meanings.entry.records.now.transcript) → IfOk result (λ lines.
+        PrintsWhole meanings.entry.records.now.assumed (transcript_of meanings.entry.records.now.transcript)
+        (declaration_of meanings.entry.records.now.declaration) meanings.entry.outcome.now rules.now lines.status
+        (string_bytes lines.text)) }
 {
-    let first = outcome_lines(alloc, outcome, records.assumed, rules)?;
-    let behind = lines_behind(alloc, records, outcome)?;
+    let first = outcome_lines(alloc, meanings, rules)?;
+    let behind = lines_behind(alloc, meanings.records, meanings.outcome)?;
     let mut text = first.text;
     text.push_str(behind.as_str())?;
     Ok(Lines {

@@ -1,7 +1,9 @@
 //! What is found in a recording, told in lines or in an object: `judge_run` and `judge_alone_run` read the files, judge, and make a witness and the
-//! declaration that was used.
+//! declaration that was used; `search_any_run` looks for a witness, whatever the declaration sets aside.
 #![tactic(auto)]
 
+mod at_length;
+mod beside;
 mod clients;
 mod clues;
 mod declaring;
@@ -9,23 +11,31 @@ mod explaining;
 mod form;
 mod found_object;
 mod holding;
+mod indenting;
 mod judging;
+mod lent_watch;
 mod lines;
 mod opening;
 mod opinion;
 mod paced;
+mod part;
 mod reduced;
 mod rule;
 mod rule_lines;
 mod rule_object;
 mod run;
 mod running;
+mod search_run;
 mod searched;
+mod seeking;
 mod unjudged_lines;
 mod unjudged_object;
 
+pub use beside::Beside;
 pub use form::JudgeForm;
 pub use opinion::Opinion;
 pub use rule::Rule;
 pub use run::JudgeRun;
 pub use running::{judge_alone_run, judge_run};
+pub use search_run::SearchRun;
+pub use seeking::search_any_run;

@@ -1,32 +1,43 @@
 //! The lines of what judging comes to.
 
 ghost use Rattle.std.specs.Prelude.{◌≡◌, ℕ, IfOk, map, string_bytes};
+ghost use Rattle.kmipa_record.specs.Declarations.{AreDeclared, declaration_of};
+ghost use Rattle.kmipa_record.specs.Marks.{AreRecorded};
+ghost use Rattle.kmipa_record.specs.Transcripts.{transcript_of};
 ghost use Rattle.kmipa_findings.specs.Told.{finding_of};
-ghost use Rattle.kmipa_judge.specs.Lines.{PrintsFinding, PrintsFindings, PrintsOutcome, assumed_line, finding_line, first_line, last_lines, over_line, refused_part};
+ghost use Rattle.kmipa_judge.specs.Parts.{IsMeaning};
+ghost use Rattle.kmipa_judge.specs.Lines.{PrintsFinding, PrintsFindings, PrintsMeaning, PrintsOutcome, assumed_line, finding_line, first_line, last_lines, over_line, refused_part};
 
+use crate::indenting::indented;
 use crate::opinion::{Opinion, findings_of, opinion_of, opinion_status, steps_of};
+use crate::part::{Meanings, meaning_of};
 use crate::rule::Rule;
 use crate::rule_lines::explained_lines;
 use kmipa_beside::{judged_line, stamp_line};
 use kmipa_check::Refused;
 use kmipa_findings::{Finding, Outcome};
 use kmipa_runs::Lines;
+use kmipa_telling::explanation_lines;
 use std::alloc::{AllocError, Global};
 
-/// The lines of an outcome, by whether nothing is declared, and by which rules every answer is explained.
+/// The lines of an outcome, with what its findings mean, and by which rules every answer is explained.
 pub(crate) fn outcome_lines(
     alloc: Global,
-    outcome: &Outcome,
-    assumed: bool,
+    meanings: Meanings,
     rules: &[Rule],
 ) -> Result<Lines, AllocError>
-    ensures { IfOk result (λ lines. PrintsOutcome assumed outcome.now rules.now lines.status (string_bytes lines.text)) }
+    requires recorded { AreRecorded (transcript_of meanings.records.now.transcript) }
+    requires declared { AreDeclared (declaration_of meanings.records.now.declaration) }
+    ensures { IfOk result (λ lines. PrintsOutcome (IsMeaning (transcript_of meanings.entry.records.now.transcript)
+        (declaration_of meanings.entry.records.now.declaration) meanings.entry.outcome.now)
+        meanings.entry.records.now.assumed meanings.entry.outcome.now rules.now lines.status (string_bytes lines.text)) }
 {
+    let outcome = meanings.outcome;
     let findings = findings_of(outcome);
     let opinion = opinion_of(outcome);
     let first = first_line(alloc, opinion, findings.len(), steps_of(outcome))?;
-    let second = assumed_line(assumed);
-    let found = finding_lines(alloc, findings)?;
+    let second = assumed_line(meanings.records.assumed);
+    let found = finding_lines(alloc, meanings, findings)?;
     let explained = explained_lines(alloc, rules)?;
     let last = last_lines(alloc, outcome)?;
     Ok(Lines {
@@ -65,13 +76,21 @@ fn assumed_line(assumed: bool) -> &'static str
 }
 
 /// The lines of findings, the first of which is number 1.
-fn finding_lines(alloc: Global, findings: &[Finding]) -> Result<String, AllocError>
-    ensures { IfOk result (λ text. PrintsFindings 1 (map finding_of findings.now) (string_bytes text)) }
+fn finding_lines<'a>(
+    alloc: Global,
+    meanings: Meanings<'_, 'a>,
+    findings: &'a [Finding],
+) -> Result<String, AllocError>
+    requires recorded { AreRecorded (transcript_of meanings.records.now.transcript) }
+    requires declared { AreDeclared (declaration_of meanings.records.now.declaration) }
+    ensures { IfOk result (λ text. PrintsFindings (IsMeaning (transcript_of meanings.entry.records.now.transcript)
+        (declaration_of meanings.entry.records.now.declaration) meanings.entry.outcome.now)
+        1 (map finding_of findings.now) (string_bytes text)) }
 {
     let mut text = String::new(alloc);
     let mut count = 0;
     'findings: while count < findings.len() {
-        let lines = lines_of_finding(alloc, count + 1, &findings[count])?;
+        let lines = lines_of_finding(alloc, meanings, count + 1, &findings[count])?;
         text.push_str(lines.as_str())?;
         count += 1;
     }
@@ -79,12 +98,40 @@ fn finding_lines(alloc: Global, findings: &[Finding]) -> Result<String, AllocErr
 }
 
 /// The lines of the finding with this number.
-fn lines_of_finding(alloc: Global, number: usize, finding: &Finding) -> Result<String, AllocError>
-    ensures { IfOk result (λ text. PrintsFinding number (finding_of finding.now) (string_bytes text)) }
+fn lines_of_finding<'a>(
+    alloc: Global,
+    meanings: Meanings<'_, 'a>,
+    number: usize,
+    finding: &'a Finding,
+) -> Result<String, AllocError>
+    requires recorded { AreRecorded (transcript_of meanings.records.now.transcript) }
+    requires declared { AreDeclared (declaration_of meanings.records.now.declaration) }
+    ensures { IfOk result (λ text. PrintsFinding (IsMeaning (transcript_of meanings.entry.records.now.transcript)
+        (declaration_of meanings.entry.records.now.declaration) meanings.entry.outcome.now)
+        number (finding_of finding.now) (string_bytes text)) }
 {
     let first = finding_line(alloc, number, &finding.refused)?;
     let second = stamp_line(alloc, finding.stamp)?;
-    format!(in alloc; "{first}{second}")
+    let more = meaning_lines(alloc, meanings, number, finding)?;
+    format!(in alloc; "{first}{second}{more}")
+}
+
+/// The lines of what the finding with this number means.
+fn meaning_lines<'a>(
+    alloc: Global,
+    meanings: Meanings<'_, 'a>,
+    number: usize,
+    finding: &'a Finding,
+) -> Result<String, AllocError>
+    requires recorded { AreRecorded (transcript_of meanings.records.now.transcript) }
+    requires declared { AreDeclared (declaration_of meanings.records.now.declaration) }
+    ensures { IfOk result (λ text. PrintsMeaning (IsMeaning (transcript_of meanings.entry.records.now.transcript)
+        (declaration_of meanings.entry.records.now.declaration) meanings.entry.outcome.now)
+        (finding_of finding.now) (string_bytes text)) }
+{
+    let meaning = meaning_of(alloc, meanings, number, finding)?;
+    let text = explanation_lines(alloc, &meaning)?;
+    indented(alloc, text.as_str())
 }
 
 fn finding_line(alloc: Global, count: usize, refused: &Refused) -> Result<String, AllocError>

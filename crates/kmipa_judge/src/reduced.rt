@@ -17,4 +17,5 @@ mod stamps;
 mod stuck;
 mod suspects;
 
+pub(crate) use reading::item_spelled;
 pub(crate) use searching::{find_at_once, find_reduced};

@@ -10,7 +10,7 @@ use kmipa_check::CheckFault;
 use kmipa_findings::{Outcome, judge_order};
 use kmipa_orders::{Found, Watch};
 use kmipa_record::{Declaration, Transcript};
-use kmipa_searches::search_records;
+use kmipa_searches::{SearchOptions, search_records};
 use kmipa_trail::Fault;
 use std::alloc::Global;
 
@@ -48,15 +48,12 @@ pub(crate) fn find_by_search<W: Watch + Drop>(
         → Judges seconds (transcript_of transcript.now) (declaration_of declaration.now) outcome)) }
 {
     let mut timed = Timed { watch };
-    match search_records(
-        alloc,
-        transcript,
-        declaration,
+    let asked = SearchOptions {
         budget,
-        false,
-        true,
-        &mut timed,
-    ) {
+        forced: false,
+        open: true,
+    };
+    match search_records(alloc, transcript, declaration, asked, &mut timed) {
         Ok(searched) => match searched.found {
             Found::Yes(witness, steps) => judge_order(
                 alloc,

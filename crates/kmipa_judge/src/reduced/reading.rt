@@ -43,7 +43,7 @@ fn seen_call<'a>(alloc: Global, call: Recorded<'a>) -> Result<Seen<'a>, AllocErr
 }
 
 /// The one item that bytes spell, where they spell one.
-fn item_spelled(bytes: &[u8]) -> Option<View<'_>> {
+pub(crate) fn item_spelled(bytes: &[u8]) -> Option<View<'_>> {
     let Ok((item, taken)) = decode_view(bytes) else {
         return None;
     };

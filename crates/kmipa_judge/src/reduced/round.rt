@@ -15,7 +15,7 @@ use crate::searched::Timed;
 use kmipa_check::{CheckFault, FirstPlaces};
 use kmipa_orders::{Deepest, Found, Watch, reached};
 use kmipa_record::{Declaration, Mark, Transcript, Turn};
-use kmipa_searches::search_records;
+use kmipa_searches::{SearchOptions, search_records};
 use kmipa_trail::Fault;
 use std::alloc::Global;
 
@@ -74,15 +74,12 @@ pub(crate) fn search_once<'x, W: Watch + Drop>(
     let reduced = reduced_transcript(alloc, reduction, search.transcript)?;
     let mut timed = Timed { watch };
     let mut deepest = Deepest::new(alloc, &mut timed);
-    let searched = search_records(
-        alloc,
-        &reduced,
-        search.declaration,
+    let asked = SearchOptions {
         budget,
-        false,
-        true,
-        &mut deepest,
-    );
+        forced: false,
+        open: true,
+    };
+    let searched = search_records(alloc, &reduced, search.declaration, asked, &mut deepest);
     match searched {
         Ok(searched) => match searched.found {
             Found::GaveUp(steps) if steps < budget => {
@@ -139,10 +136,7 @@ fn ended_by(
             ended: Ended::Ordered(merged(alloc, reduction, stamps, witness.turns)?),
             steps,
         }),
-        Found::Refuted(steps, object) => Ok(Round {
-            ended: Ended::Refuted(object),
-            steps,
-        }),
+        Found::Refuted(steps, objects) => Ok(refuted(objects, steps)),
         Found::Impossible(steps, place) => match begun_at(reduced, place) {
             Some(call) => Ok(Round {
                 ended: Ended::Impossible(Suspect { call, place: None }),
@@ -151,6 +145,18 @@ fn ended_by(
             None => Ok(undecided(steps)),
         },
         Found::GaveUp(steps) | Found::OutOfTime(steps, _) => Ok(undecided(steps)),
+    }
+}
+
+/// These objects together refute all orders. The last of them is suspected alone: the others may be right without it.
+fn refuted(objects: Vec<String>, steps: u64) -> Round {
+    let mut objects = objects;
+    match objects.pop() {
+        Some(object) => Round {
+            ended: Ended::Refuted(object),
+            steps,
+        },
+        None => undecided(steps),
     }
 }
 

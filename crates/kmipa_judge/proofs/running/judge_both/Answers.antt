@@ -60,8 +60,9 @@ returns-in-Err-second-clause-known g c =
 pub judge_records-requires : goal.judge_records-requires
 judge_records-requires g c =
     let given = declaration_of c.in-Ok-second.given in
+    let first = ok_told c.in-Ok.first c.in-Ok-first.recording _ c.in-Ok-first.is c.in-Ok.ensures.found in
     let second = ok_told c.in-Ok-read_given.second c.in-Ok-second.given _ c.in-Ok-second.is c.in-Ok-read_given.ensures.found in
-    subst AreDeclared (sym c.judging_by.ensures) (judging_may given second.0.1)
+    record { recorded = first.0.0.recorded; declared = subst AreDeclared (sym c.judging_by.ensures) (judging_may given second.0.1) }
 
 pub returns-clause-told : goal.returns-clause-told
 returns-clause-told g c =

@@ -1,7 +1,7 @@
 use Rattle.std.proofs.Common.{Option, None, true, option_map, subst, sym}
 use Rattle.kmipa_ttlv.specs.Input.{came_of, is_failed}
 use Rattle.kmipa_json.specs.Told.{members_of}
-use Rattle.kmipa_record.specs.Declarations.{declaration_of}
+use Rattle.kmipa_record.specs.Declarations.{AreDeclared, declaration_of}
 use Rattle.kmipa_record.specs.Files.{Tells}
 use Rattle.kmipa_record.specs.Transcripts.{IsTranscriptUpTo, TranscriptFault, transcript_of}
 use Rattle.kmipa_record.specs.declared.head.Head.{Head}
@@ -10,7 +10,7 @@ use Rattle.kmipa_runs.proofs.KnowingLemmas.{knows}
 use Rattle.kmipa_runs.specs.Knowing.{Known}
 use Rattle.kmipa_telling.proofs.JudgingLemmas.{err_told, ok_told}
 use Rattle.kmipa_judge.specs.Runs.{judged}
-use Rattle.kmipa_judge.proofs.RunLemmas.{records_opened, told_fault, unread_knows}
+use Rattle.kmipa_judge.proofs.RunLemmas.{nothing_may, records_opened, told_fault, unread_knows}
 use Rattle.kmipa_judge.proofs.running.judge_one.Goals as goal
 
 pub returns-in-Err-first-clause-told : goal.returns-in-Err-first-clause-told
@@ -26,6 +26,11 @@ returns-in-Err-first-clause-known g c =
     let t = c.read_recording.new.input in
     let run = c.unread_one.result in
     unread_knows c.args.form t None (audit.Transcript c.in-Err-first.fault) run.status run.lines.items (came_of t) run.head c.unread_one.ensures.told
+
+pub judge_records-requires : goal.judge_records-requires
+judge_records-requires g c =
+    let first = ok_told c.in-Ok.first c.in-Ok-first.recording _ c.in-Ok-first.is c.in-Ok.ensures.found in
+    record { recorded = first.0.0.recorded; declared = subst AreDeclared (sym c.nothing_known.ensures) (nothing_may c.assumed_visibility-visibility.result) }
 
 pub returns-clause-told : goal.returns-clause-told
 returns-clause-told g c =
