@@ -5,10 +5,9 @@ use Rattle.kmipa_ttlv.specs.declared.input.Input.{Input}
 use Rattle.kmipa_check.specs.Audits.{AreAccepted}
 use Rattle.kmipa_check.specs.declared.auditing.AuditFault.{AuditFault}
 use Rattle.kmipa_runs.specs.Inputs.{AreShown, PrintsShown}
-use Rattle.kmipa_searches.specs.Searches.{PrintsSearch, SearchesFiles}
+use Rattle.kmipa_judge.specs.Searches.{IsFound, SearchesAny}
 use Rattle.kmipa_jobs.specs.Statuses.{IsSilent}
 use Rattle.kmipa_jobs.specs.declared.options.ShowOptions.{ShowOptions}
-use Rattle.kmipa_searches.specs.declared.searched.Searched.{Searched}
 use Rattle.kmipa_jobs.specs.declared.status.Status.{Status}
 use Rattle.kmipa_jobs.specs.declared.status.Status.TheVariants as status
 use Rattle.kmipa_segments.specs.Leaving.{LeadsAsAsked}
@@ -31,12 +30,11 @@ MakesNothing said lines made = IsSilent said lines × (made ≡ [])
 abbrev pub FindsWhenDone : {R : Type 0} → Input R → Input R → Status → List ℕ → Type 0
 FindsWhenDone t d said made = said ≡ status.Done → AreAccepted (came_of t) (came_of d) made × IsTrue (is_ended t) × IsTrue (is_ended d)
 
--- Of a search that ends after so many seconds, or in its own time, where these are 0: its lines alone, which tell what a search answers of whatever the files may be, and a witness; or memory ran out.
+-- Of a search that ends after so many seconds, or in its own time, where these are 0: its lines alone, whatever the declaration sets aside, and a witness; or
+-- memory ran out. Status 0 is answered only where the bytes that came, to the ends that were seen, are accepted with the witness that is made.
 pub record SearchesInLines {R : Type 0} (seconds : ℕ) (words : SearchWords) (t d : Input R) (said : Status) (lines made : List ℕ) : Type 0 where
-  pub prints : (outcome : Result Searched AuditFault)
-      × ((a b : List ℕ) → IsFileOf a t → IsFileOf b d → SearchesFiles a b (is_failed t) (is_failed d) seconds words.budget words.forced outcome)
-      × (PrintsSearch outcome said lines made ⊎ MakesNothing said lines made)
-  pub accepts : FindsWhenDone t d said made
+  pub searches : SearchesAny seconds words.budget words.forced t d said lines made
+  pub accepts : said ≡ status.Done → IsFound t d made
 
 -- Behind those of a giving up stands what it means.
 pub record SearchesExplained {R : Type 0} (seconds : ℕ) (words : SearchWords) (t d : Input R) (said : Status) (lines made : List ℕ) : Type 0 where

@@ -12,9 +12,10 @@ use crate::did::Said;
 use crate::ran::Ran;
 use kmipa_beside::check_any_run;
 use kmipa_jobs::SearchWords;
+use kmipa_judge::search_any_run;
 use kmipa_orders::Watch;
 use kmipa_runs::write_run;
-use kmipa_searches::{explain_search_run, search_json, search_run};
+use kmipa_searches::{FoundOutput, JsonSearch, SearchOptions, explain_search_run, search_json};
 use kmipa_segments::{
     CheckOutput, SearchAsked, SearchOutput, SegmentAsked, search_segment_run, segment_run,
 };
@@ -155,25 +156,13 @@ pub fn search_lines<R: Read, W: Watch>(
     ensures told { SearchesInLines (W.seconds watch.old) words transcript.new declaration.new result.0.status result.0.lines.items result.1.items }
     ensures known { KnowsSeals (came_of transcript.new) result.0.status result.0.head }
 {
-    let mut lines = Vec::new(alloc);
-    let mut made = Vec::new(alloc);
-    let answered = search_run(
-        alloc,
-        transcript,
-        declaration,
-        words.budget,
-        words.forced,
-        words.open,
-        watch,
-        &mut lines,
-        &mut made,
-    );
+    let run = search_any_run(alloc, transcript, declaration, words, watch);
     let ran = Ran {
-        status: answered.status,
-        lines,
-        head: answered.head,
+        status: run.status,
+        lines: run.lines,
+        head: run.head,
     };
-    (ran, made)
+    (ran, run.witness)
 }
 
 /// And what a giving up means.
@@ -190,19 +179,16 @@ pub fn search_explained<R: Read, W: Watch>(
         result.1.items }
     ensures known { KnowsSeals (came_of transcript.new) result.0.status result.0.head }
 {
-    let mut lines = Vec::new(alloc);
-    let mut made = Vec::new(alloc);
-    let answered = explain_search_run(
-        alloc,
-        transcript,
-        declaration,
-        words.budget,
-        words.forced,
-        words.open,
-        watch,
-        &mut lines,
-        &mut made,
-    );
+    let asked = SearchOptions {
+        budget: words.budget,
+        forced: words.forced,
+        open: words.open,
+    };
+    let lines = Vec::new(alloc);
+    let made = Vec::new(alloc);
+    let mut out = FoundOutput { lines, made };
+    let answered = explain_search_run(alloc, transcript, declaration, asked, watch, &mut out);
+    let FoundOutput { lines, made } = out;
     let ran = Ran {
         status: answered.status,
         lines,
@@ -226,20 +212,17 @@ pub fn search_object<R: Read, W: Watch>(
         result.0.status result.0.lines.items result.1.items }
     ensures known { KnowsSeals (came_of transcript.new) result.0.status result.0.head }
 {
-    let mut lines = Vec::new(alloc);
-    let mut made = Vec::new(alloc);
-    let answered = search_json(
-        alloc,
-        torn,
-        transcript,
-        declaration,
-        words.budget,
-        words.forced,
-        words.open,
-        watch,
-        &mut lines,
-        &mut made,
-    );
+    let search = SearchOptions {
+        budget: words.budget,
+        forced: words.forced,
+        open: words.open,
+    };
+    let asked = JsonSearch { torn, search };
+    let lines = Vec::new(alloc);
+    let made = Vec::new(alloc);
+    let mut out = FoundOutput { lines, made };
+    let answered = search_json(alloc, transcript, declaration, asked, watch, &mut out);
+    let FoundOutput { lines, made } = out;
     let ran = Ran {
         status: answered.status,
         lines,
@@ -264,10 +247,13 @@ pub fn search_left<R: Read, W: Watch>(
         result.0.status result.0.lines.items result.1.items result.2.items }
     ensures known { KnowsSeals (came_of transcript.new) result.0.status result.0.head }
 {
-    let asked = SearchAsked {
+    let search = SearchOptions {
         budget: words.budget,
         forced: words.forced,
         open: words.open,
+    };
+    let asked = SearchAsked {
+        search,
         segment: asked,
     };
     let lines = Vec::new(alloc);

@@ -1,14 +1,7 @@
-use Rattle.std.proofs.Common.{List, ℕ}
-use Rattle.kmipa_session.specs.Searches.{SearchesInLines}
-use Rattle.kmipa_session.proofs.SessionLemmas.{both_behind_nothing}
 use Rattle.kmipa_session.proofs.runs.search_lines.Goals as goal
 
 pub returns-clause-told : goal.returns-clause-told
-returns-clause-told g c =
-    let run = c.search_run-answered in
-    let P : List ℕ → List ℕ → Type 0 = λ l m. SearchesInLines (g.W.Watch.seconds c.args.watch.now) c.args.words run.new.transcript run.new.declaration run.result.status l m in
-    both_behind_nothing P c.new-lines.result.items run.new.out.items c.new-made.result.items run.new.made.items c.new-lines.ensures.items
-    c.new-made.ensures.items (record {
-      prints = run.ensures.prints;
-      accepts = run.ensures.accepts;
-    })
+returns-clause-told g c = record {
+  searches = c.search_any_run-run.ensures.told;
+  accepts = c.search_any_run-run.ensures.accepts;
+}
