@@ -7,7 +7,7 @@ ghost use Rattle.kmipa_store.specs.States.{state_of_journal};
 use super::check;
 use super::reading::declared;
 use super::spelled::{DECLARATION, ENTRY};
-use kmipa_aside::{Passed, is_aside, take_excused, take_passed, take_unread};
+use kmipa_aside::{Item, Passed, is_aside, take_excused, take_passed, take_unread};
 use kmipa_check::open_ledger;
 use kmipa_msgs::{Activate, Answer, Ask, Asked, Changed, Payload, Rules, Status};
 use kmipa_ops::{Refusal, Why};
@@ -272,7 +272,13 @@ fn check_excused(
     let rules = Rules::default_rules(alloc).expect(rt, "memory");
     let mut ledger = opened(rt, alloc);
     let ask = activate_of(id);
-    let taken = take_excused(alloc, &mut ledger, &rules, T, Held::Unknown, &ask, answer);
+    let item = Item {
+        moment: T,
+        before: Held::Unknown,
+        ask: &ask,
+        answer,
+    };
+    let taken = take_excused(alloc, &mut ledger, &rules, item);
     let told = match taken {
         Ok(held) => Ok(held.is_some()),
         Err(refusal) => Err(refusal),

@@ -42,8 +42,11 @@ fn followed_by(rt: &impl Abort, alloc: Global, message: Vec<u8>) -> Transcript {
 
 // Checks that `k1` refutes the calls, behind so many steps.
 fn check_refuted(rt: &impl Abort, found: Result<Found, CheckFault>, steps: u64) {
-    let Ok(Found::Refuted(tried, object)) = found else {
+    let Ok(Found::Refuted(tried, objects)) = found else {
         rt.panic("not refuted");
+    };
+    let [object] = objects.as_slice() else {
+        rt.panic("not one object");
     };
     check(rt, object.as_str() == "k1", "another object");
     check(rt, tried == steps, "another number of steps");
