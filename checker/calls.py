@@ -109,7 +109,7 @@ def take_call(run: Run, step: Step) -> None:
         if it.number not in step.passed:
             take(run, it)
         else:
-            is_other = it.operation not in (0, POLL) and it.answers_to not in (None, it.operation)
+            is_other = it.has_operation and it.operation != POLL and it.answers_to not in (None, it.operation)
             run.refuse(it.number, [(is_other, Why.OperationDiffers)])
             pass_place(run, it, step.is_unordered)
     if step.option == UNDO and step.first_failed is not None:

@@ -166,7 +166,8 @@ class Place:
     that means the placeholder; of the answer whether it is done, and what is said, NOTHING where none is read."""
     def __init__(self, number: int, ask: Item, answer: Item) -> None:
         self.number, self.ask, self.answer = number, ask, answer
-        self.operation, self.asked = ask.get(Tag.OPERATION) or 0, ask.inner(Tag.ASKED)
+        number = ask.get(Tag.OPERATION)
+        self.operation, self.has_operation, self.asked = number or 0, number is not None, ask.inner(Tag.ASKED)
         self.identifier, named = self.asked.get(Tag.IDENTIFIER), self.asked.first(Tag.IDENTIFIER)
         self.names_none = named is None or (named.type, named.value) == (ENUMERATION, 1)
         self.kind, self.block, self.secret = object_in(self.asked, self.operation == REGISTER)
@@ -248,4 +249,5 @@ class Step:
         self.is_read = self.is_readable and not is_aside
         self.moment = turn.get(Tag.MOMENT, self.stamp) if self.is_read else None
         odd = [it.number for it, *both in zip(self.answered, *(each[1:] for each in self.kinds)) if any(both)]
-        self.passed = {*self.asides, *odd, *(it.number for it in self.answered if it.operation == POLL)}
+        polls = [it.number for it in self.answered if it.operation == POLL and is_lenient]
+        self.passed = {*self.asides, *odd, *polls}
