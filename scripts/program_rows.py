@@ -11,7 +11,8 @@ TOLD = 20
 
 
 class Row(NamedTuple):
-    """A run: its name, the words, the files in the folder it runs in, what it prints, its status, and the content of the file `made`, if it makes that."""
+    """A run: its name, the words, the files in the folder it runs in, what it prints, its status, and the content of the file `made`, if it makes that.
+    More may be printed behind, where only its beginning is looked at."""
 
     name: str
     words: list[str]
@@ -19,6 +20,7 @@ class Row(NamedTuple):
     printed: str
     status: int
     made: bytes | None = None
+    begins: bool = False
 
 
 def wrong_with(program: str, row: Row) -> str:
@@ -30,7 +32,8 @@ def wrong_with(program: str, row: Row) -> str:
         left = sorted(set(os.listdir(folder)) - set(row.files))
         made = Path(folder, "made").read_bytes() if left == ["made"] else None
     printed = done.stdout.decode(errors="replace")
-    if printed != row.printed or done.returncode != row.status:
+    as_wanted = printed.startswith(row.printed) if row.begins else printed == row.printed
+    if not as_wanted or done.returncode != row.status:
         return f"{row.name}: printed {printed!r} with status {done.returncode}, in place of {row.printed!r} with {row.status}"
     if made != row.made or left != ["made"] * (row.made is not None):
         return f"{row.name}: left {left}, with another content than wanted"

@@ -26,6 +26,12 @@ def checked(name: str, session: Session, lines: str, witness: bytes | None = Non
     return Row(name, ["check", *files], files, lines + "\n", status_of(lines))
 
 
+def searched(name: str, session: Session, lines: str, *options: str, made: bytes | None = None) -> Row:
+    """A search, and the witness that it makes."""
+    files = {"transcript": session.transcript(), "declaration": session.declaration()}
+    return Row(name, ["search", *files, "made", *options], files, lines + "\n", status_of(lines), made)
+
+
 def status_of(lines: str) -> int:
     """The status of a run that prints these lines."""
     words = [line.split(" ")[0].removesuffix(":") for line in lines.splitlines()]
