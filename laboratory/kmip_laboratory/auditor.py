@@ -9,7 +9,7 @@ import threading
 from pathlib import Path
 from typing import Callable, Iterator, Optional, Union
 
-from .judgement import Judgement, read_fault, read_judgement
+from .judgement import Aside, Judgement, read_asides, read_fault, read_judgement
 from .trouble import Trouble
 from .verdicts import Account, Outcome, Verdict, read_account, read_explained, read_verdict
 
@@ -33,9 +33,9 @@ class Auditor:
         self.file = found
 
     def version(self) -> str:
-        """What the program calls itself."""
+        """What the program calls itself, without the commit and the kit that stand on lines of their own."""
         try:
-            return self._run("--version").stdout.strip()
+            return self._run("--version").stdout.strip().partition("\n")[0]
         except subprocess.TimeoutExpired:
             return "kmip_audit"
 
@@ -77,6 +77,14 @@ class Auditor:
             return self._late()
         found = read_judgement(done.stdout, done.returncode)
         return found if found else self._read("judge", done, read_fault)
+
+    def asides(self, transcript: str, declaration: Optional[str], budget: int) -> list[Aside]:
+        """All identifiers of which nothing is judged, which the lines of a judgement tell the first of."""
+        files = [transcript, *([declaration] if declaration else [])]
+        try:
+            return read_asides(self._run("judge", *files, "--json", "--budget", str(budget), "--quiet").stdout)
+        except subprocess.TimeoutExpired:
+            return []
 
     def chain(self, folder: str, budget: int) -> tuple[str, int]:
         """What a chain prints of a folder of segments, and its status."""

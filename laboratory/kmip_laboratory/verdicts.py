@@ -22,6 +22,11 @@ class Outcome(Enum):
     MEMORY = "memory"
     LATE = "late"
     BUT_FOR = "yes but for"
+    EXPLAINED = "explained"
+    NOTHING_JUDGED = "nothing judged"
+    CONVICTED = "convicted"
+    SUSPECTED = "suspected"
+    UNDECIDED = "undecided"
 
 
 PATTERNS: dict[Outcome, Pattern[str]] = {
@@ -111,12 +116,12 @@ class Verdict(NamedTuple):
 
 def read_verdict(printed: str, status: int) -> Optional[Verdict]:
     """The verdict that these lines are; None where they are none."""
-    lines, seal = _apart(printed)
+    lines, seal = seal_apart(printed)
     verdict = _verdict(lines, status)
     return verdict and verdict._replace(seal=seal)
 
 
-def _apart(printed: str) -> tuple[list[str], Optional[Seal]]:
+def seal_apart(printed: str) -> tuple[list[str], Optional[Seal]]:
     """The lines, and that of a sealed transcript behind them, where there is one."""
     lines = printed.rstrip("\n").splitlines()
     found = SEALED.fullmatch(lines[-1]) if len(lines) > 1 else None
@@ -137,7 +142,7 @@ def _verdict(lines: list[str], status: int) -> Optional[Verdict]:
 
 def read_explained(printed: str, status: int) -> Optional[Verdict]:
     """The verdict that the first of these lines are, with the others, which explain it."""
-    lines, seal = _apart(printed)
+    lines, seal = seal_apart(printed)
     told = LINES_OF_A_NO if printed.startswith("no: ") or lines[1:2] and lines[1].startswith(TALLY) else 1
     verdict = _verdict(lines[:told], status)
     verdict = verdict and verdict._replace(seal=seal)

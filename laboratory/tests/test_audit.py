@@ -13,6 +13,10 @@ import sessions
 from laboratory import AUDITOR, FOLDER, InFolder, run
 from messages import item, number, version
 
+from kmip_laboratory.auditing.apart import about, convicting
+from kmip_laboratory.auditor import Auditor
+from kmip_laboratory.calls import read_transcript
+from kmip_laboratory.judgement import Finding, Judgement, Sort
 from kmip_laboratory.transcript_writer import TranscriptWriter
 
 EXAMPLES = FOLDER.parent / "examples"
@@ -45,22 +49,23 @@ class Audit(InFolder):
         """The first line is the auditor's, and the folder has the order, the page and the file for JUnit."""
         before = sorted(os.listdir(self.recording("activated_while_read")))
         lines = self.audited("activated_while_read")
-        self.assertRegex(lines[0], r"\Ayes: \d+ steps\Z")
+        self.assertEqual(lines[0], "explained")
         made = self.folder / "activated_while_read.audit"
         self.assertEqual(sorted(os.listdir(made)),
-                         ["declaration.ttlv", "junit.xml", "report.html", SAID, "witness.ttlv"])
+                         ["declaration.ttlv", "junit.xml", "report.html", SAID, "used.ttlv", "witness.ttlv"])
         self.assertEqual(sorted(os.listdir(self.folder / "activated_while_read")), before)
         suite = ElementTree.parse(made / "junit.xml").getroot()
         self.assertEqual([case.tag for case in suite.iter("failure")], [])
         self.audited(made / SAID, "--declaration", made / "declaration.ttlv", "--out", "again")
 
     def test_what_no_order_explains(self) -> None:
-        """It ends with status 1, and tells the answer that convicts, in the calls that are left; a blinded copy has no
+        """It ends with status 1, and tells the answer that convicts, and the calls that are left; a blinded copy has no
         key."""
         self.recording("register_then_get_other_byte")
         lines = self.audited("register_then_get_other_byte", "--blind", "--out", "made", status=1)
         self.assertIn("no order explains what was recorded", lines)
-        self.assertIn("  no: turn 2 call 2 item 1 why 9 BytesDiffer", lines)
+        self.assertEqual(lines[:2], ["convicted: 1 findings", "finding 1: turn 2 call 2 item 1 why 9 BytesDiffer"])
+        self.assertIn("already these 2 calls can't be explained: 1, 2; they are in made/part", lines)
         self.assertTrue((self.folder / "made/part/witness.ttlv").is_file())
         failures = list(ElementTree.parse(self.folder / "made/junit.xml").getroot().iter("failure"))
         self.assertEqual(len(failures), 1)
@@ -86,7 +91,7 @@ class Audit(InFolder):
         before = said.read_bytes()
         lines = self.audited(said, "--empty")
         self.assertEqual(lines[:3], ["2 messages translated, 0 left as they are", "declaration: 0 rows, 0 entries",
-                                     "yes: 1 steps"])
+                                     "explained"])
         self.assertEqual(said.read_bytes(), before)
 
     def test_rules_go_with_a_server_that_held_nothing(self) -> None:
@@ -106,9 +111,10 @@ class Audit(InFolder):
         lines = self.audited(said, "--out", "made", status=4)
         self.assertEqual(lines[:2], ["nothing judged", "assumed: nothing is declared"])
         self.assertIn("judged: 0 of 1 items; set aside: 0 by request, 0 by answer, 0 by witness, 1 by object", lines)
-        self.assertEqual(lines[-1], "made/witness.ttlv is the order that this is told of")
+        self.assertEqual(lines[-2:], ["made/witness.ttlv is the order that this is told of",
+                                      "made/report.html shows it"])
         self.assertEqual(sorted(os.listdir(self.folder / "made")),
-                         ["declaration.ttlv", "junit.xml", SAID, "witness.ttlv"])
+                         ["declaration.ttlv", "junit.xml", "report.html", SAID, "witness.ttlv"])
         failures = list(ElementTree.parse(self.folder / "made/junit.xml").getroot().iter("failure"))
         self.assertEqual([failure.get("type") for failure in failures], ["nothing judged"])
 
@@ -120,7 +126,12 @@ class Audit(InFolder):
         self.assertIn("finding 2: turn 3 call 3 item 1 why 9 BytesDiffer", lines)
         self.assertIn("judged: 1 of 3 items; set aside: 0 by request, 0 by answer, 2 by witness, 0 by object", lines)
         failure = next(ElementTree.parse(self.folder / "made/junit.xml").getroot().iter("failure"))
-        self.assertEqual((failure.get("type"), failure.get("message")), ("convicted", "convicted: 2 findings"))
+        self.assertEqual(failure.get("type"), "convicted")
+        self.assertTrue((failure.get("message") or "").startswith("convicted: 2 findings. Convicted: no order "))
+        page = (self.folder / "made/report.html").read_text("utf-8")
+        for place in (1, 2):
+            self.assertIn(f'id="finding-1-{place}"', page)
+            self.assertIn(f'href="#story-1-{place}"', page)
         self.assertEqual(self.audited(self.brought(bytes(16)), "--out", "right")[0], "explained")
 
     def test_what_is_not_judged_is_set_aside(self) -> None:
@@ -130,6 +141,60 @@ class Audit(InFolder):
         lines = self.audited(said, "--empty", "--out", "made")
         self.assertEqual(lines[:2], ["declaration: 0 rows, 0 entries", "explained"])
         self.assertIn("judged: 2 of 3 items; set aside: 1 by request, 0 by answer, 0 by witness, 0 by object", lines)
+        page = (self.folder / "made/report.html").read_text("utf-8")
+        self.assertIn("Objects that are set aside", page)
+        self.assertIn("object c is set aside since call 1 item 1 Register", page)
+        self.assertIn('"aside":[0,-1,-1]', page)
+
+    def test_what_is_suspected_is_convicted_by_its_own_calls(self) -> None:
+        """Two clients are at work at once, so that another order isn't excluded of all calls: it is of those about one
+        object."""
+        path, stamp, key = self.folder / "said.ttlv", 1_700_000_000, sessions.key(bytes(16))
+        register = number(0x420057, 5, 2) + sessions.attributes(number(0x42002C, 2, 12)) + key
+        told = number(0x420057, 5, 2) + sessions.identifier("k") + sessions.key(bytes(15) + b"\x01")
+        with TranscriptWriter(str(path)) as writer:
+            other = writer.begin("b", sessions.request(sessions.LOCATE, b""))
+            call = writer.begin("a", sessions.request(sessions.REGISTER, register))
+            writer.end(call, sessions.response(sessions.REGISTER, stamp, sessions.identifier("k")))
+            writer.end(other, sessions.response(sessions.LOCATE, stamp, b""))
+            call = writer.begin("a", sessions.request(sessions.GET, sessions.identifier("k")))
+            writer.end(call, sessions.response(sessions.GET, stamp, told))
+        lines = self.audited(path, "--out", "made", status=1)
+        self.assertEqual(lines[0], "suspected: 1 findings")
+        self.assertIn("already these 2 calls can't be explained: 2, 3; they are in made/part", lines)
+        page = (self.folder / "made/report.html").read_text("utf-8")
+        self.assertLess(page.index("made/part: convicted: 9 BytesDiffer"), page.index("made: suspected: 9 BytesDiffer"))
+        self.assertIn("already the few calls in made/part can&#x27;t be explained", page)
+
+    def test_calls_that_may_have_changed_anything_stay_with_the_others(self) -> None:
+        """What is left out does something to what it names alone: a call that may do more stays, and so does one whose
+        object nobody knows."""
+        # Behind two Gets a Re-key, and one of PKCS#11's functions; and at last bytes that are no message.
+        asked = {"k": sessions.GET, "m": sessions.GET, "r": 0x04, "p": 0x33}
+        path, stamp = self.folder / "said.ttlv", 1_700_000_000
+        with TranscriptWriter(str(path)) as writer:
+            for name, operation in asked.items():
+                call = writer.begin("a", sessions.request(operation, sessions.identifier(name)))
+                writer.end(call, sessions.response(operation, stamp, sessions.identifier(name)))
+            writer.end(writer.begin("a", b"?"), sessions.response(sessions.GET, stamp, b""))
+        calls = read_transcript(str(path)).calls
+        finding = Finding("", 1, 1, 1, 9, "BytesDiffer", "")
+        self.assertEqual([call.number for call in about(finding, calls) or []], [1, 3, 4, 5])
+
+    def test_what_is_explained_is_explained_in_each_of_its_parts(self) -> None:
+        """Of three clients at once each object but one is right: the calls about it convict nobody."""
+        transcript = read_transcript(str(EXAMPLES / "recorded/three_clients" / SAID))
+        last = {name: (call.number, place) for call in transcript.calls for place, piece in enumerate(call.pieces, 1)
+                for name in piece.identifiers | piece.answered if len(piece.identifiers | piece.answered) == 1}
+        self.assertGreater(len(last), 15)
+        for name, (call, item) in last.items():
+            found = Judgement(Sort.SUSPECTED, [], 4, [Finding("", 1, call, item, 9, "BytesDiffer", "")])
+            folder = self.folder / name
+            folder.mkdir()
+            shutil.copy(EXAMPLES / "recorded/three_clients" / SAID, folder / SAID)
+            apart = convicting(folder, found, Auditor(AUDITOR), 100_000)
+            self.assertEqual(apart is not None, name == "13", name)
+            self.assertEqual((folder / "part").exists(), name == "13")
 
     def test_nothing_is_written_over(self) -> None:
         """A folder that is there stays as it is."""

@@ -64,8 +64,8 @@ def windows(data: bytes, length: int = 8) -> Iterator[bytes]:
 
 
 def folders() -> list[Path]:
-    """Every example and every recording, but those that are torn or whose seals aren't right."""
-    found = sorted(path.parent for path in EXAMPLES.glob("**/transcript.ttlv"))
+    """Every example and every recording with a witness, but those that are torn or whose seals aren't right."""
+    found = sorted(path.parent for path in EXAMPLES.glob("**/transcript.ttlv") if path.with_name("witness.ttlv").exists())
     broken = ("torn_transcript", "sealed_record_doubled", "sealed_record_turned", "sealed_torn_record", "sealed_without_close")
     return [folder for folder in found if folder.name not in broken]
 

@@ -286,7 +286,7 @@ class Tables(InFolder):
         self.assertNotIn("<script>alert", written)
         self.assertEqual([found["href"] for found in page.attributes["a"]][:2], ["#recording-1", "#story-1"])
         self.assertIn("story-1", [found.get("id") for found in page.attributes["h3"]])
-        self.assertLess(written.index("Findings"), written.index("By verdict"))
+        self.assertLess(written.index("Findings"), written.index("Verdicts"))
         self.assertTrue(re.search(r"the story of object &lt;script&gt;", written))
 
 

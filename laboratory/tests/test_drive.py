@@ -13,8 +13,9 @@ from laboratory import AUDITOR, FOLDER, SECONDS, Begin, End, Laboratory, read_ma
 from laboratory import audit as checked
 
 from kmip_laboratory.auditor import Auditor
-from kmip_laboratory.driving import audit, calibrate, mixes, plan, wire
+from kmip_laboratory.driving import calibrate, mixes, plan, wire
 from kmip_laboratory.auditing.decide import PART, decide
+from kmip_laboratory.auditing.ending import convicted
 from kmip_laboratory.driving.faults import FAULTS, description
 from kmip_laboratory.driving.numbers import Operation
 from kmip_laboratory.driving.words import main
@@ -154,10 +155,10 @@ class OnTheWire(Laboratory):
         done = self.drive(self.simulated("--pace", "10"), "--calls", "60", "--clients", "2", "--pause", "0.005",
                           "--mix", "lifecycle", "--out", out, "--auditor", AUDITOR, word="audit")
         self.assertEqual(done.returncode, 0, done.stdout + done.stderr)
-        self.assertRegex(done.stdout, r"declaration: 0 rows, 0 entries\n(.*\n)*yes: \d+ steps\n")
+        self.assertRegex(done.stdout, r"declaration: 0 rows, 0 entries\n(.*\n)*explained\n")
         self.assertEqual(checked(out), "yes\n")
         self.assertIn(f"{out / 'report.html'} shows it\n", done.stdout)
-        self.assertIn("<pre>yes</pre>", (out / "report.html").read_text("utf-8"))
+        self.assertIn("<pre>explained</pre>", (out / "report.html").read_text("utf-8"))
         self.assertEqual(run("verify", out / "transcript.ttlv").returncode, 0)
 
     def test_one_command_says_yes_in_every_version(self) -> None:
@@ -167,7 +168,7 @@ class OnTheWire(Laboratory):
                               self.folder / version, "--auditor", AUDITOR, word="audit")
             with self.subTest(version=version):
                 self.assertEqual(done.returncode, 0, done.stdout + done.stderr)
-                self.assertRegex(done.stdout, r"\nyes: \d+ steps\n")
+                self.assertIn("\nexplained\n", done.stdout)
                 self.assertIn("report.html shows it\n", done.stdout)
 
     def test_the_newest_version_is_found_out_where_none_is_given(self) -> None:
@@ -195,12 +196,12 @@ class OnTheWire(Laboratory):
                           "--empty", word="audit")
         self.assertEqual(done.returncode, 1, done.stdout + done.stderr)
         self.assertIn("no order explains what was recorded", done.stdout)
-        self.assertRegex(done.stdout, r"in one order of them, that of .*, kmip_audit check says:\n  no: .* why 9 BytesDiffer\n  at ")
+        self.assertRegex(done.stdout, r"\nfinding 1: turn \d+ call \d+ item \d+ why 9 BytesDiffer\nat ")
         searched = subprocess.run([AUDITOR, "search", "transcript.ttlv", "declaration.ttlv", "none"], cwd=out / "part",
                                   capture_output=True, text=True, timeout=SECONDS * 3)
         self.assertEqual(searched.returncode, 4)
         self.assertLess(int(re.search(r"gave up: (\d+) steps", searched.stdout).group(1)), 1_000_000)
-        self.assertIn("why 9 BytesDiffer", (out / "report.html").read_text("utf-8"))
+        self.assertIn("(reason 9, BytesDiffer)", (out / "report.html").read_text("utf-8"))
         self.assertIn(f"This was drawn from {out / 'transcript.ttlv'}, ", (out / "part/transcript.ttlv.origin").read_text())
 
     def test_troubles_are_one_line(self) -> None:
@@ -258,11 +259,10 @@ class Convictions(Laboratory):
         calls = {mark.call for mark in read_marks(str(folder / PART / "transcript.ttlv"))}
         self.assertEqual(calls, set(decision.part))
         self.assertLess(len(calls), 60)
-        told = audit.explained(folder, decision)
-        self.assertIn("no order explains what was recorded", told)
+        told, counted = convicted(folder, decision.part)
+        self.assertEqual(told, "no order explains what was recorded")
+        self.assertTrue(counted.startswith(f"already these {len(calls)} calls can't be explained: "), counted)
         self.assertTrue(decision.why.explanation)
-        for line in (*decision.why.lines, *decision.why.explanation):
-            self.assertIn(f"  {line}", told)
 
 
 class Faults(unittest.TestCase):

@@ -6,6 +6,7 @@ from __future__ import annotations
 import subprocess
 import unittest
 
+import certificates
 import messages
 from key_server import HERE, WithPyKmip
 from laboratory import AUDITOR, PYKMIP_PYTHON, SECONDS, Begin, read_marks, run, wait_until
@@ -114,6 +115,27 @@ class OfTheField(WithPyKmip):
         data = (self.folder / "b.ttlv").read_bytes()
         self.assertFalse(any(MATERIAL[place:place + 8] in data for place in range(25)))
         self.assertNotIn(b"key of client", data)
+
+    def test_three_clients_with_certificates_wrapped_keys_and_attribute_operations(self) -> None:
+        """They are at work at once, nobody says what the server held, and much of it no rule judges: the server is
+        convicted all the same, in one word."""
+        names = ("portal", "vault", "backup")
+        certificates.make_certificates(self.certificates, names)
+        clients = [word for name in names for word in ("--as", f"{name}={name}.pem,{name}.key")]
+        recorder = self.start(self.server_port, "--minor", "1", *clients)
+        done = subprocess.run([PYKMIP_PYTHON, "-W", "ignore", HERE / "pykmip_three.py", self.certificates,
+                               str(recorder.port)], capture_output=True, text=True, timeout=SECONDS * 4)
+        self.assertEqual(done.returncode, 0, done.stderr)
+        recorder.end()
+        audited = run("audit", "transcript.ttlv", "--out", "audited", cwd=self.folder)
+        self.assertEqual((audited.returncode, audited.stderr), (1, ""), audited.stdout)
+        # Where its clock goes on to the next second meanwhile, the Initial Date is wrong too, which is told first.
+        self.assertRegex(audited.stdout, r"finding 1: turn \d+ call \d+ item 1 why (12 AttributeMissing|11 AttributeDiffers)\n")
+        self.assertRegex(audited.stdout, r"  (Activation Date: not shown, \S+ held|Initial Date: \S+ shown, \S+ held)\n")
+        for told in (r"passed: Set Attribute 3 items", r'aside: "\d+" since call \d+ item 1 Modify Attribute',
+                     r"already these \d+ calls can't be explained: "):
+            self.assertRegex(audited.stdout, told)
+        self.assertIn("Objects that are set aside", (self.folder / "audited/report.html").read_text("utf-8"))
 
     def test_a_client_that_breaks_off_leaves_a_call_with_its_answer(self) -> None:
         recorder = self.start(self.server_port, "--minor", "1")

@@ -190,6 +190,53 @@ class Report(unittest.TestCase):
         self.assertIn("420043 Key Material Bytes (16 bytes, hidden)", "\n".join(page.data["lines"]))
         self.assertEqual(set(page.data["recordings"][0]["clients"]), set(STRANGE))
 
+    def unjudged(self) -> Path:
+        """A recording without a declaration, in which every text is strange: certificates are registered, and a key is
+        shown that no key is."""
+        folder = self.folder / "unjudged"
+        folder.mkdir()
+        certificate, wrong = messages.number(0x420057, 5, 1), STRANGE[1]
+        key = messages.number(0x420057, 5, 2) + sessions.attributes(messages.number(0x42002C, 2, 12)) + sessions.key(KEY)
+        with TranscriptWriter(str(folder / "transcript.ttlv")) as writer:
+            for text in STRANGE:
+                asked = sessions.request(sessions.REGISTER, key if text == wrong else certificate)
+                writer.end(writer.begin(text, asked), sessions.response(sessions.REGISTER, 8, sessions.identifier(text)))
+                writer.end(writer.begin(text, messages.get(text)), shown_key(text, KEY[::-1]))
+        return folder
+
+    def test_a_recording_without_a_declaration_is_judged(self) -> None:
+        """Its findings come first, and what is set aside is told and greyed, with why; and texts stay texts."""
+        folder = self.unjudged()
+        done = report(self.out, folder, "--text", "--junit", self.folder / "junit.xml")
+        self.assertEqual((done.returncode, done.stderr), (1, ""))
+        page = Page(self.out.read_text("utf-8"))
+        self.assertEqual(page.tags.count("script"), 3, "the page's own")
+        self.assertFalse({"b", "i", "img"} & set(page.tags))
+        links = [found["href"] for found in page.attributes["a"]]
+        self.assertEqual(links, ["#finding-1-1", "#story-1-1"])
+        (data,) = page.data["recordings"]
+        self.assertEqual((data["fault"], data["faults"]), (4, [4]))
+        others = [text for text in STRANGE if text != STRANGE[1]]
+        self.assertEqual([data["objects"][int(place)] for place in data["gone"]], others)
+        self.assertEqual([place >= 0 for place in data["aside"]], [True, True, False, False, *[True] * 6])
+        self.assertEqual(data["why"][0], f"object {STRANGE[0]} is set aside since call 1 item 1 Register")
+        self.assertIn("The auditor judged 1 of 10 items.", "".join(page.texts))
+        for told in ("finding 1: turn 4 call 4 item 1 why 9 BytesDiffer", "- set aside", "The auditor judged 1 of 10 items."):
+            self.assertIn(told, done.stdout)
+        self.assertIn(f"$ kmip_audit judge {shlex.quote(str(folder / 'transcript.ttlv'))}", "".join(page.texts))
+        case = ElementTree.parse(self.folder / "junit.xml").getroot()[0]
+        told = {found.get("name"): found.get("value") for found in case.iter("property")}
+        self.assertEqual((told["items judged"], told["items set aside by object"]), ("1", "4"))
+
+    @unittest.skipUnless(CHROMIUM, "needs Debian's chromium")
+    def test_a_browser_shows_what_is_set_aside(self) -> None:
+        report(self.out, self.unjudged())
+        dom, said = self.browse(self.out, until="data-call=")
+        self.assertEqual([line for line in said.splitlines() if "CONSOLE" in line], [])
+        self.assertEqual(len(re.findall(r'<rect class="bar aside"[^>]*data-call=', dom)), 8)
+        self.assertEqual(len(re.findall(r'<rect class="bar fault"[^>]*data-call=', dom)), 1)
+        self.assertIn("Call 4: Get", dom, "it opens at the first finding")
+
     def test_the_page_needs_nothing_else(self) -> None:
         page = self.page(EXAMPLES / "register_then_get")
         for attributes in (found for every in page.attributes.values() for found in every):

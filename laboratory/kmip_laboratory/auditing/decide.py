@@ -34,11 +34,6 @@ class Decision(NamedTuple):
     why: Optional[Verdict] = None
 
     @property
-    def is_unjudged(self) -> bool:
-        """The search can't judge the recording, or a declaration that sets aside more than it knows of."""
-        return self.outcome is Outcome.OUTSIDE or self.line.startswith("malformed: declaration ")
-
-    @property
     def explained(self) -> bool:
         """A witness was found."""
         return self.status == 0

@@ -1,41 +1,52 @@
-"""What the auditor finds in a recording of which a search says nothing: one with calls that aren't judged, or of which
-nobody says what the server held."""
+"""What the auditor finds in a recording: each answer that is impossible, with all set aside that no rule judges."""
 
 from __future__ import annotations
 
+import time
 from pathlib import Path
-from typing import Union
+from typing import NamedTuple, Union
 
 from ..auditor import Auditor
-from ..files import write_file
 from ..judgement import Judgement
 from ..recordings import DECLARATION, TRANSCRIPT, WITNESS
-from ..reporting import junit
-from ..trouble import Trouble, say
+from ..reporting.found import Files
+from ..reporting.judging import Asking, Judged, judged_of
 from ..verdicts import Verdict
 
+# The declaration that was used, where another one was given.
+USED = "used.ttlv"
 
-def find(folder: Path, auditor: Auditor, budget: int) -> Union[Judgement, Verdict]:
-    """What is found in the folder's recording, whose witness is put there; where it has no declaration the one that is
-    used, which assumes nothing, is put there too."""
+
+class Found(NamedTuple):
+    """What was found, the files of it, and how long that took."""
+
+    files: Files
+    said: Union[Judgement, Verdict]
+    seconds: float
+
+    def told(self) -> list[str]:
+        """The lines that tell it, and where to look."""
+        if isinstance(self.said, Verdict):
+            return self.said.printed
+        witness = self.files.witness
+        return [*self.said.lines, *([f"{witness} is the order that this is told of"] if witness.exists() else [])]
+
+    def looked_at(self, asking: Asking) -> Judged:
+        """The same as the report shows it."""
+        folder = str(self.files.transcript.parent)
+        return judged_of(folder, self.said, self.files, asking)._replace(seconds=self.seconds)
+
+
+def files_in(folder: Path) -> Files:
+    """The files of a recording in a folder. Where none is declared, the declaration that is used is put there."""
     declaration = folder / DECLARATION
-    is_declared = declaration.exists()
-    return auditor.judge(str(folder / TRANSCRIPT), str(declaration) if is_declared else None, str(folder / WITNESS),
-                         None if is_declared else str(declaration), budget)
+    given = declaration if declaration.exists() else None
+    return Files(folder / TRANSCRIPT, given, folder / USED if given else declaration, folder / WITNESS)
 
 
-def told_of(folder: Path, found: Union[Judgement, Verdict]) -> list[str]:
-    """The lines that tell what was found, and where to look."""
-    if isinstance(found, Verdict):
-        return found.printed
-    witness = folder / WITNESS
-    return [*found.lines, f"{witness} is the order that this is told of"] if witness.exists() else found.lines
-
-
-def write_junit(folder: Path, found: Union[Judgement, Verdict], path: Path) -> None:
-    """The file for JUnit. The status is that of the audit, also where it can't be made."""
-    if isinstance(found, Judgement):
-        try:
-            write_file(str(path), junit.told_of_judgement(str(folder), found).encode("utf-8"))
-        except Trouble as trouble:
-            say(f"no file for JUnit was made of it: {trouble}")
+def find(files: Files, auditor: Auditor, budget: int) -> Found:
+    """What is found in a recording. Its witness and the declaration that was used are put beside it."""
+    started = time.monotonic()
+    said = auditor.judge(str(files.transcript), str(files.declaration) if files.declaration else None,
+                         str(files.witness), str(files.used), budget)
+    return Found(files, said, time.monotonic() - started)

@@ -1,4 +1,4 @@
-"""The word `audit`: declares, drives and records, searches, explains and reports, in one go."""
+"""The word `audit`: declares, drives and records, judges and reports, in one go."""
 
 from __future__ import annotations
 
@@ -6,12 +6,10 @@ import asyncio
 from pathlib import Path
 from typing import NamedTuple
 
-from ..auditing.decide import decide
-from ..auditing.ending import REPORT, explained, report
+from ..auditing.run import Asked, conclude
 from ..auditor import Auditor
 from ..recording import declaration, inventory, rules
 from ..recordings import DECLARATION, TRANSCRIPT
-from ..reporting.words import Outputs
 from ..sifting import run as sifting
 from ..trouble import Trouble
 from ..versions import Version
@@ -36,8 +34,7 @@ class Wanted(NamedTuple):
 
 
 def run(job: Job, wanted: Wanted, auditor: Auditor) -> int:
-    """Everything. The status is the auditor's: 0 where it found a witness, 1 where it decided that there is none, 4
-    where it decided nothing, else what it ended with."""
+    """Everything. The status is that of an audit of what was recorded."""
     folder = wanted.folder
     with record.recording(folder, job.version, wanted.is_sealed) as transcript:
         _declare(job, wanted)
@@ -45,10 +42,7 @@ def run(job: Job, wanted: Wanted, auditor: Auditor) -> int:
     print(transcript.summary())
     print("\n".join(done.lines()), flush=True)
     _forget(wanted)
-    decision = decide(folder, auditor, wanted.budget)
-    print("\n".join(explained(folder, decision)), flush=True)
-    report(folder, decision, wanted.budget, auditor.program, Outputs(str(folder / REPORT)))
-    return decision.status
+    return conclude(Asked(folder, wanted.budget), auditor)
 
 
 def _declare(job: Job, wanted: Wanted) -> None:

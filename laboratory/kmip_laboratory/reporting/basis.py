@@ -4,14 +4,14 @@ of the recording, and not the auditor's word."""
 from __future__ import annotations
 
 import os
-from typing import NamedTuple, Protocol
+from typing import Collection, NamedTuple, Protocol
 
 from ..calls import Call
 from ..verdicts import Outcome, Verdict
 from .batches import OfBatches, OfKinds
 from .conformance import Section
-from .coverage import Coverage, Covering, judged_calls
-from .declared import Declared, read_declared
+from .coverage import BY_JUDGING, Coverage, Covering, judged_calls
+from .declared import NOTHING, Declared, read_declared
 from .exercised import OfAttributes, OfFilters, OfReasons, OfStates
 from .lives import Lives, Seen
 from .steps import taken
@@ -41,17 +41,20 @@ class Basis(NamedTuple):
     sections: list[Section]
 
 
-def read_basis(verdict: Verdict, calls: list[Call], declaration: str, witness: str) -> Basis:
-    """What a verdict on these calls rests on; a witness that does not fit them gives no order."""
-    has_order = os.path.exists(witness) and verdict.outcome in (Outcome.YES, Outcome.NO)
+def read_basis(verdict: Verdict, calls: list[Call], declaration: str, witness: str,
+               aside: Collection[int] = frozenset()) -> Basis:
+    """What a verdict on these calls rests on, by the files of its declaration and of its witness; a witness that does
+    not fit them gives no order. Nothing of the calls in `aside` was judged."""
+    has_order = os.path.exists(witness) and verdict.outcome in (Outcome.YES, Outcome.NO, *BY_JUDGING)
     turns = read_turns(witness) if has_order else by_time_stamp(calls)
     of_call = {turn.call: number for number, turn in enumerate(turns, 1)}
-    covering = Covering(judged_calls(verdict, calls, of_call))
+    covering = Covering(judged_calls(verdict, calls, of_call).difference(aside))
     for call in calls:
         covering.call(call)
     unknown = frozenset().union(*(piece.identifiers for call in calls if call.end is None and not has_order
                                   for piece in call.pieces))
-    return _told(BY_TURNS if has_order else BY_STAMPS, calls, turns, covering, (read_declared(declaration), unknown))
+    start = read_declared(declaration) if os.path.exists(declaration) else NOTHING
+    return _told(BY_TURNS if has_order else BY_STAMPS, calls, turns, covering, (start, unknown))
 
 
 def _told(order: str, calls: list[Call], turns: list[Turn], covering: Covering,

@@ -9,10 +9,11 @@ from .conformance import Line, Section, in_sum, spelled
 from .coverage import ENDS, in_words
 
 
-def paragraphs(basis: Basis) -> Iterator[str]:
-    """What was judged, and the conformance table: a paragraph a line, of any length."""
+def paragraphs(basis: Basis, told: str = "") -> Iterator[str]:
+    """What was judged, in the auditor's words where it tells that, and the conformance table: a paragraph a line, of
+    any length."""
     yield f"What the verdict rests on. {READING}"
-    yield in_words(basis.coverage)
+    yield told or in_words(basis.coverage)
     for name, counts in basis.coverage.operations:
         yield f"  {name}: " + ", ".join(f"{count:,} {end}" for count, end in zip(counts, ENDS) if count)
     for name, count in basis.coverage.reasons:

@@ -2,6 +2,8 @@
 
 from __future__ import annotations
 
+from typing import Optional
+
 from .basis import READING, Basis
 from .conformance import Line, Section, in_sum, spelled
 from .coverage import ENDS, in_words
@@ -10,15 +12,16 @@ from .markup import Markup, Part, element, table, together
 NEVER = "never"
 
 
-def coverage(basis: Basis) -> Markup:
-    """What was judged."""
+def coverage(basis: Basis, told: Optional[str] = None) -> Markup:
+    """What was judged, in the auditor's words where it tells that."""
     by_operation: list[list[Part]] = [[name, *map(_count, counts)] for name, counts in basis.coverage.operations]
     by_reason: list[list[Part]] = [[name, _count(count)] for name, count in basis.coverage.reasons]
     tables = [table(["Items by operation", *ENDS], by_operation, len(ENDS))]
     tables += [table(["Result Reason", "refusals judged"], by_reason, 1)] if by_reason else []
     return together([
-        element("h3", "What the verdict rests on"), element("p", in_words(basis.coverage)),
-        element("p", READING, of="soft"), element("div", *tables, of="counts")])
+        element("h3", "What the verdict rests on"), element("p", told or in_words(basis.coverage)),
+        element("p", ("The table is the report's reading of it, call by call." if told else READING), of="soft"),
+        element("div", *tables, of="counts")])
 
 
 def conformance(basis: Basis) -> Markup:

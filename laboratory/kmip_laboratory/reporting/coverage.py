@@ -18,6 +18,8 @@ from .steps import BIRTHS
 NOT_JUDGED = "not judged"
 ENDS = [*(STATUSES[status].lower() for status in (Status.SUCCESS, Status.FAILED, Status.UNDONE)), NOT_JUDGED]
 REFUSED_MESSAGE = ", of a refused message"
+# Verdicts on an order in which nothing stops at what is impossible.
+BY_JUDGING = (Outcome.EXPLAINED, Outcome.NOTHING_JUDGED, Outcome.CONVICTED, Outcome.SUSPECTED)
 
 
 class Share(NamedTuple):
@@ -79,9 +81,9 @@ class Covering:
 
 
 def judged_calls(verdict: Verdict, calls: list[Call], turns: dict[int, int]) -> frozenset[int]:
-    """The calls that a verdict speaks of: at a yes those of the order, at a no those up to the refused one, and where a
-    search decided that there is no order all that have ended. Else none was judged."""
-    if verdict.outcome is Outcome.YES:
+    """The calls that a verdict speaks of: at a yes and by judging those of the order, at a no those up to the refused
+    one, and where a search decided that there is no order all that have ended. Else none was judged."""
+    if verdict.outcome in (Outcome.YES, *BY_JUDGING):
         return frozenset(turns)
     if verdict.outcome is Outcome.NO:
         return frozenset(call for call, turn in turns.items() if turn <= (verdict.turn or 0))

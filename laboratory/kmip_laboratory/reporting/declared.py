@@ -21,6 +21,10 @@ class Declared(NamedTuple):
     things: list[Thing]
 
 
+# Where nothing is declared.
+NOTHING = Declared([Row(ITEM_NOT_FOUND, Cause.NotFound)], [])
+
+
 def read_declared(path: str) -> Declared:
     """What the declaration in this file says."""
     rows: list[Row] = []
@@ -31,7 +35,7 @@ def read_declared(path: str) -> Declared:
         elif record.item.tag == FileTag.ENTRY:
             identifier = record.item.first(Tag.UNIQUE_IDENTIFIER, Kind.TEXT)
             things += [read_thing(identifier.value, record.item)] if identifier else []
-    return Declared(rows or [Row(ITEM_NOT_FOUND, Cause.NotFound)], things)
+    return Declared(rows or NOTHING.rows, things)
 
 
 def _rows(item: Item) -> list[Row]:

@@ -18,23 +18,35 @@ def figures(judged: Judged, recording: int, lines: dict[str, int]) -> dict[str, 
     lanes, lane_of = _lanes(calls)
     clients = sorted({call.client for call in calls}, key=_natural)
     does = sorted(set(map(operations, calls)))
+    places = {name: place for place, name in enumerate(does)}
+    client_of = {client: place for place, client in enumerate(clients)}
     numbers = [lines.setdefault(line, len(lines)) for line in judged.read.messages.lines]
     objects: dict[str, int] = {}
     named = [sorted(objects.setdefault(name, len(objects)) for name in sorted(identifiers(call))) for call in calls]
+    why = judged.found.why if judged.found else {}
+    reasons: dict[str, int] = {}
     shown = [judged.read.messages.of_call.get(call.number, ([], [])) for call in calls]
     return {
-        "recording": recording, "fault": judged.verdict.call, "story": judged.named(),
+        "recording": recording, "fault": judged.verdict.call, "faults": judged.faults(), "story": judged.named(),
         "marks": len(marks), "clients": list(map(plain, clients)),
-        "lanes": [clients.index(client) for client in lanes], "what": does,
+        "lanes": [client_of[client] for client in lanes], "what": does,
         "number": [call.number for call in calls], "begin": [marks[call.begin] for call in calls],
         "end": [-1 if call.end is None else marks[call.end] for call in calls],
         "lane": [lane_of[call.number] for call in calls], "kind": [KINDS.index(came_to(call)) for call in calls],
         "turn": [judged.turns.get(call.number, 0) for call in calls], "stamp": [call.stamp for call in calls],
         "objects": list(map(plain, objects)), "named": named,
-        "does": [does.index(operations(call)) for call in calls],
+        "does": [places[operations(call)] for call in calls],
+        "aside": [reasons.setdefault(why[call.number], len(reasons)) if call.number in why else -1 for call in calls],
+        "why": list(map(plain, reasons)), "gone": _gone(judged, objects),
         "request": [[numbers[line] for line in request] for request, _ in shown],
         "response": [[numbers[line] for line in response] for _, response in shown],
     }
+
+
+def _gone(judged: Judged, objects: dict[str, int]) -> dict[int, str]:
+    """Since when each object is set aside that is, by its place among all of them."""
+    asides = judged.found.asides if judged.found else []
+    return {objects[told.identifier]: plain(told.since) for told in asides if told.identifier in objects}
 
 
 def _natural(name: str) -> list[tuple[str, int]]:

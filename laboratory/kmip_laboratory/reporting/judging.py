@@ -8,11 +8,12 @@ import tempfile
 import time
 from datetime import datetime, timedelta, timezone
 from pathlib import Path
-from typing import NamedTuple, Optional
+from typing import NamedTuple, Optional, Union
 
 from ..auditor import Auditor
 from ..calls import Call, Status, read_transcript
 from ..files import write_file
+from ..judgement import Judgement
 from ..operations import operation_name as standard_name
 from ..paths import quoted, see_plain, shown
 from ..recording.order import turns
@@ -23,6 +24,7 @@ from ..trouble import Trouble
 from ..verdicts import Account, Digest, Outcome, Verdict
 from .basis import Basis, read_basis
 from .explanation import Mention, mentions
+from .found import Files, Found, found_of, verdict_of
 from .messages import Messages, read_messages
 
 # Of a search where no other is given.
@@ -46,8 +48,9 @@ class Read(NamedTuple):
 
 class Judged(NamedTuple):
     """A recording: its folder, the verdict with the words of the command that repeats it, what the auditor told of the
-    files, its files with their digests, and what was read of it; and of an order that is refused what a search for
-    others says, where that was asked."""
+    files, its files with their digests, and what was read of it; of an order that is refused what a search for others
+    says, where that was asked; of one that was judged without an order what was found; and what else is to be said of
+    it."""
 
     folder: str
     verdict: Verdict
@@ -57,6 +60,8 @@ class Judged(NamedTuple):
     read: Read
     seconds: float
     searched: Optional[Verdict] = None
+    found: Optional[Found] = None
+    note: str = ""
 
     @property
     def calls(self) -> list[Call]:
@@ -83,16 +88,34 @@ class Judged(NamedTuple):
         """Whether the auditor says no: to the order that is given, where no search finds another, or to all of them."""
         if self.verdict.outcome is Outcome.NO:
             return self.searched is None or self.searched.outcome is not Outcome.YES
-        return bool(self.verdict.decided)
+        return bool(self.verdict.decided) or self.verdict.outcome is Outcome.CONVICTED
 
     @property
     def is_explained(self) -> bool:
-        """Whether an order explains every answer."""
-        return self.verdict.outcome is Outcome.YES
+        """Whether an order explains every answer that is judged."""
+        return self.verdict.outcome in (Outcome.YES, Outcome.EXPLAINED)
+
+    @property
+    def printed(self) -> list[str]:
+        """All lines of the auditor's, but for that of a sealed transcript."""
+        seal = [self.verdict.seal.line] if self.verdict.seal else []
+        if self.found:
+            return [line for line in self.found.judgement.lines if line not in seal]
+        return [*self.verdict.lines, *self.verdict.explanation]
+
+    def faults(self) -> list[int]:
+        """The calls that the verdict names."""
+        if self.found:
+            return list(dict.fromkeys(finding.call for finding in self.found.findings))
+        return [] if self.verdict.call is None else [self.verdict.call]
 
     def refused(self) -> Optional[Call]:
-        """The call that the verdict names."""
-        return next((call for call in self.calls if call.number == self.verdict.call), None)
+        """The call that the verdict names first."""
+        return self.call(self.verdict.call)
+
+    def call(self, number: Optional[int]) -> Optional[Call]:
+        """The call with this number."""
+        return next((call for call in self.calls if call.number == number), None)
 
     def mentions(self, text: str) -> list[Mention]:
         """The places in a text of the auditor's that lead to calls."""
@@ -100,14 +123,20 @@ class Judged(NamedTuple):
 
     def named(self) -> list[int]:
         """The calls that stand out beside the refused one: those that the explanation names, or else the story's."""
-        if self.verdict.explanation:
-            lines = [line for line in self.verdict.explanation if not line.startswith(TAKEN)]
+        told = self._explanation()
+        if told or self.found:
+            lines = [line for line in told if not line.startswith(TAKEN)]
             return sorted({place.call for place in self.mentions("\n".join(lines))})
         return [call.number for call in self.story()]
 
     def naming(self) -> str:
         """What those have in common, for a legend."""
-        return "named by the explanation" if self.verdict.explanation else "names the same object"
+        return "named by the explanation" if self._explanation() else "names the same object"
+
+    def _explanation(self) -> list[str]:
+        """All that the auditor explains."""
+        findings = self.found.findings if self.found else []
+        return [*self.verdict.explanation, *(line for finding in findings for line in finding.explanation)]
 
     def story(self) -> list[Call]:
         """The calls that name an object of the refused call, up to it: by turns, or else by begin marks."""
@@ -150,7 +179,9 @@ class Asking(NamedTuple):
 
 def judge(folder: str, asking: Asking) -> Judged:
     """Asks the auditor: a check where there is a witness, else a search; and of a witness that is refused a search
-    too, where other orders are asked for."""
+    too, where other orders are asked for. Where nothing is declared it judges what the calls show."""
+    if not os.path.exists(os.path.join(folder, DECLARATION)):
+        return _judge_undeclared(folder, asking)
     auditor = Auditor(asking.program, asking.seconds)
     paths = [os.path.join(folder, name) for name in (TRANSCRIPT, DECLARATION, WITNESS)]
     files = [_digest(path) for path in paths if path != paths[2] or os.path.exists(path)]
@@ -172,6 +203,39 @@ def judge(folder: str, asking: Asking) -> Judged:
     if searched:
         searched = searched._replace(decided=_decides(searched, asking.budget, read.calls))
     return Judged(folder, verdict, _words(folder, is_checked, more), account, files, read, seconds, searched)
+
+
+def _judge_undeclared(folder: str, asking: Asking) -> Judged:
+    """What is found in a recording of which nobody says what the server held."""
+    started = time.monotonic()
+    with tempfile.TemporaryDirectory(prefix="kmip_report-") as made:
+        transcript = _readable_names(folder, made)[0]
+        files = Files(Path(transcript), None, Path(made, DECLARATION), Path(made, WITNESS))
+        auditor = Auditor(asking.program, asking.seconds)
+        found = auditor.judge(transcript, None, str(files.witness), str(files.used), asking.budget or USUAL_BUDGET)
+        return judged_of(folder, found, files, asking)._replace(seconds=time.monotonic() - started)
+
+
+def judged_of(folder: str, judgement: Union[Judgement, Verdict], files: Files, asking: Asking) -> Judged:
+    """A recording that was judged so, by these files."""
+    auditor = Auditor(asking.program, asking.seconds)
+    declaration = str(files.declaration) if files.declaration else None
+    verdict = judgement if isinstance(judgement, Verdict) else verdict_of(judgement)
+    names = [os.path.join(folder, TRANSCRIPT), *([os.path.join(folder, DECLARATION)] if declaration else [])]
+    budget = [] if asking.budget is None else ["--budget", str(asking.budget)]
+    words = ["kmip_audit", "judge", *map(quoted, names), *budget]
+    digests = [_digest(name) for name in names]
+    account = Account(auditor.version(), ())
+    if isinstance(judgement, Verdict):
+        return Judged(folder, verdict, words, account, digests, Read([], {}, Messages([], {})), 0.0)
+    calls = read_transcript(str(files.transcript)).calls
+    order = _turns(str(files.witness)) if files.witness.exists() else {}
+    asides = (auditor.asides(str(files.transcript), declaration, asking.budget or USUAL_BUDGET)
+              if judgement.has_asides else [])
+    found = found_of(judgement, asides, calls, order)
+    basis = read_basis(verdict, calls, str(files.used), str(files.witness), found.why)
+    read = Read(calls, order, read_messages(auditor, str(files.transcript), asking.with_keys), basis)
+    return Judged(folder, verdict, words, account, digests, read, 0.0, found=found)
 
 
 def _read(auditor: Auditor, verdict: Verdict, files: tuple[str, str, str], with_keys: bool) -> Read:

@@ -9,11 +9,12 @@ from typing import Optional, Sequence
 from ..paths import shown
 from ..plain import plain
 from ..verdicts import Outcome
-from . import basis_on_page
+from . import basis_on_page, found_on_page
 from .counts import by_verdict, crosses, period
 from .explanation import Story, split, story
 from .figures import figures
 from .findings import findings
+from .found import in_words_of
 from .judging import Judged, came_to, moment, operations
 from .markup import Markup, Part, data, digest, element, table, together
 from .reasons import PREMISES, in_short, in_words, of_others, of_seal
@@ -21,11 +22,12 @@ from .reasons import PREMISES, in_short, in_words, of_others, of_seal
 SOURCES = Path(__file__).resolve().parent / "page"
 TOOLS = [("fault", "To the verdict's call"), ("in", "Zoom in"), ("out", "Zoom out"), ("left", "Earlier"),
          ("right", "Later"), ("all", "Whole recording")]
+NEXT = "To the next finding"
 LEGEND = [("success", "success"), ("failed", "failed"), ("refused", "message refused"), ("undone", "undone"),
           ("open", "no answer"), ("fault", "named by the verdict")]
 KEYS = ("Keys, once the timeline has the focus: left and right for the call before and behind, up and down for the row "
         "above and below, Home and End, + and - to zoom, Page Up and Page Down to move, 0 for the whole recording, f "
-        "for the verdict's call. Drag to move; Ctrl and the wheel zoom.")
+        "for the verdict's call, or the next of them. Drag to move; Ctrl and the wheel zoom.")
 MOST_OF_STORY = 20
 HOLDS = {Outcome.NO: "Each line is a claim of the auditor's, and holds in this order of the calls."}
 # As in timeline.js, in a bar of the legend.
@@ -77,9 +79,10 @@ def _overview(recordings: list[Judged]) -> Markup:
         [element("a", shown(judged.folder), href=f"#recording-{number}"), in_short(judged.verdict),
          str(len(judged.calls)), f"{judged.seconds:.1f}"] for number, judged in enumerate(recordings, 1)]
     reasons: list[list[Part]] = [[reason, str(count)] for reason, count in by_verdict(recordings)]
+    counts = [element("h2", "By verdict"), table(["Verdict", "Recordings"], reasons, 1)]
     return together([
         element("h2", "Verdicts"), table(["Recording", "Verdict", "Calls", "Seconds to judge"], rows, 2),
-        element("h2", "By verdict"), table(["Verdict", "Recordings"], reasons, 1)])
+        *(counts if len(recordings) > len(reasons) else [])])
 
 
 def _recording(judged: Judged, number: int, heading: str) -> Markup:
@@ -88,7 +91,11 @@ def _recording(judged: Judged, number: int, heading: str) -> Markup:
         element("h2", heading),
         element("div", element("p", in_words(judged.verdict)), element("pre", *_linked(judged, judged.verdict.lines)),
                 of=f"verdict {outcome}")]
-    refused = judged.refused()
+    parts += [element("p", judged.note)] if judged.note else []
+    if judged.found:
+        parts += [element("p", tally) for tally in in_words_of(judged.found)]
+        parts.append(found_on_page.explained(judged, judged.found, number, _words()))
+    refused = None if judged.found else judged.refused()
     if refused is not None:
         parts.append(element("p", "The verdict names ", _link(refused.number), f", {operations(refused)}, of client "
                              f"{refused.client}."))
@@ -97,10 +104,14 @@ def _recording(judged: Judged, number: int, heading: str) -> Markup:
     if judged.verdict.outcome is Outcome.NO or judged.verdict.explanation:
         parts.append(_explanation(judged))
     if judged.calls:
-        told = story(judged.verdict.explanation)
-        parts += [_timeline(judged), _story(judged, number) if told is None else _told_story(judged, told, number)]
+        parts.append(_timeline(judged))
+        parts += [] if judged.found else [_story_of(judged, number)]
+    if judged.found:
+        parts += [found_on_page.others(judged, judged.found, number, _words()),
+                  found_on_page.asides(judged.found, _words())]
     if judged.read.basis is not None:
-        parts += [basis_on_page.coverage(judged.read.basis), basis_on_page.conformance(judged.read.basis)]
+        told = "".join(in_words_of(judged.found)) if judged.found else None
+        parts += [basis_on_page.coverage(judged.read.basis, told), basis_on_page.conformance(judged.read.basis)]
     if judged.calls:
         parts += [element("h3", "Calls"), _counts(judged)]
     parts += [element("h3", "Evidence"), _evidence(judged), element("h3", "What a verdict means"),
@@ -129,15 +140,24 @@ def _link(number: int, words: Optional[str] = None) -> Markup:
     return element("button", words or f"call {number}", type="button", of="call", data_number=number)
 
 
+def _words() -> found_on_page.Words:
+    """How findings lead to bars."""
+    return found_on_page.Words(_linked, _link)
+
+
 def _timeline(judged: Judged) -> Markup:
-    buttons = [element("button", words, type="button", data_does=does) for does, words in TOOLS
-               if does != "fault" or judged.refused() is not None]
+    several = len(judged.faults()) > 1
+    buttons = [element("button", NEXT if several and does == "fault" else words, type="button", data_does=does)
+               for does, words in TOOLS if does != "fault" or judged.refused() is not None]
     if judged.turns:
         buttons.append(element("button", "Line of the order", type="button", data_does="order", aria_pressed="false"))
     buttons.append(element("button", "By object", type="button", data_does="objects", aria_pressed="false"))
     legend = [element("li", element("svg", *_sample(kind), viewBox="0 0 26 12", aria_hidden="true"), words)
               for kind, words in LEGEND]
-    if len(judged.named()) > 1:
+    if judged.found and judged.found.why:
+        sample = element("rect", of="bar aside", x=2, y=2, width=22, height=8)
+        legend.append(element("li", element("svg", sample, viewBox="0 0 26 12", aria_hidden="true"), "set aside"))
+    if len(judged.named()) > (0 if judged.found else 1):
         sample = element("rect", of="bar success story", x=2, y=2, width=22, height=8)
         legend.append(element("li", element("svg", sample, viewBox="0 0 26 12", aria_hidden="true"),
                               judged.naming()))
@@ -165,6 +185,11 @@ def _sample(kind: str) -> list[Markup]:
     """A bar of this kind, for the legend."""
     stripes = [element("path", of="stripe", d=f"M0 {height}h26") for height in STRIPES.get(kind, [])]
     return [element("rect", of=kind, width=26, height=12), *stripes]
+
+
+def _story_of(judged: Judged, number: int) -> Markup:
+    told = story(judged.verdict.explanation)
+    return _story(judged, number) if told is None else _told_story(judged, told, number)
 
 
 def _told_story(judged: Judged, told: Story, number: int) -> Markup:
@@ -217,4 +242,10 @@ def _evidence(judged: Judged) -> Markup:
         table(["File", f"SHA-256, {read}", "Bytes"], rows, 1),
         *([element("p", of_seal(judged.verdict.seal))] if judged.verdict.seal else []),
         element("p", f"Judged in {judged.seconds:.1f} seconds. Anybody can repeat the verdict:"),
-        element("pre", f"$ {judged.command}\n" + "\n".join(judged.verdict.printed))])
+        element("pre", f"$ {judged.command}\n" + "\n".join(_printed(judged)))])
+
+
+def _printed(judged: Judged) -> list[str]:
+    """What the command prints; of findings the lines that stand in a section of their own are left out."""
+    return [*judged.verdict.lines, *([".."] if judged.found else []),
+            *([judged.verdict.seal.line] if judged.verdict.seal else [])]

@@ -2,6 +2,7 @@
 
 from __future__ import annotations
 
+from ..judgement import Finding
 from ..verdicts import Outcome, Seal, Verdict
 
 WHY: dict[int, str] = {
@@ -21,6 +22,7 @@ WHY: dict[int, str] = {
     14: "something is not listed that must be",
     15: "the reason of the refusal has no cause",
     16: "the answer repeats another identifier, type or batch item ID than it should",
+    17: "an object is shown or changed that the server has to hide from this client",
 }
 MEANING: dict[Outcome, str] = {
     Outcome.YES: "Explained: the answers can all be explained by the calls having been done one at a time.",
@@ -33,6 +35,12 @@ MEANING: dict[Outcome, str] = {
     Outcome.MEMORY: "Not judged: memory ran out.",
     Outcome.LATE: "Not judged: the auditor was given no more time (--seconds).",
     Outcome.BUT_FOR: "Explained but for what the witness sets aside: the other answers can all be explained.",
+    Outcome.EXPLAINED: "Explained: one order of the calls explains every answer that is judged.",
+    Outcome.NOTHING_JUDGED: "Nothing is judged: each answer is set aside.",
+    Outcome.CONVICTED: "Convicted: no order of the calls explains every answer.",
+    Outcome.SUSPECTED: "Suspected: these answers are impossible in the orders that were tried. Calls overlap, so "
+                       "another order may explain them.",
+    Outcome.UNDECIDED: "Undecided: the steps or the seconds were used up. What was found by then is not confirmed.",
 }
 PREMISES = (
     "A yes says that some inventory fits the declaration, and that doing one call after the other from there, by the "
@@ -40,6 +48,13 @@ PREMISES = (
     "this order, that it held what is declared, or that the recorder's marks are right. A no speaks of this order "
     "alone; where a search gives up, it has decided that there is no order only if it had steps left, and every call "
     "has ended, has its items in order and waits for no payload.")
+
+
+def of_finding(finding: Finding) -> str:
+    """What a finding says, in a sentence."""
+    where = "the call itself" if finding.item == 0 else f"item {finding.item}"
+    return (f"Turn {finding.turn}, call {finding.call}, {where}: {WHY.get(finding.number, finding.name)} "
+            f"(reason {finding.number}, {finding.name}).")
 
 
 def in_words(verdict: Verdict) -> str:

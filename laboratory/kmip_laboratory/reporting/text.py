@@ -11,6 +11,7 @@ from ..paths import shown
 from ..plain import plain
 from .basis_in_text import paragraphs
 from .counts import Cross, by_verdict, crosses, period
+from .found import in_words_of
 from .judging import Judged, came_to, operations
 from .reasons import PREMISES, in_short, in_words, of_others, of_seal
 
@@ -42,10 +43,11 @@ def _recording(judged: Judged, made: datetime) -> list[str]:
     """The report of one recording."""
     by_whom = f"Made {made:%Y-%m-%dT%H:%M:%SZ} by kmip_report, from what {judged.account.version} printed."
     lines = [*_broken(shown(judged.folder)), *_filled(by_whom), ""]
-    for line in (*judged.verdict.lines, *judged.verdict.explanation):
+    for line in judged.printed:
         lines += _broken(line)
     lines += ["", *_filled(in_words(judged.verdict))]
     lines += _filled(of_others(judged.searched)) if judged.searched is not None else []
+    lines += _filled(judged.note) if judged.note else []
     lines += [""]
     for path, length, sha256 in judged.files:
         lines += [*_broken(f"{shown(path)}, {length:,} bytes"), f"  SHA-256 {sha256}"]
@@ -59,22 +61,25 @@ def _recording(judged: Judged, made: datetime) -> list[str]:
 def basis_lines(judged: Judged) -> list[str]:
     """What the verdict rests on, if that is known."""
     basis = judged.read.basis
-    return [line for told in paragraphs(basis) for line in _broken(told)] if basis is not None else []
+    counted = "".join(in_words_of(judged.found)) if judged.found else ""
+    return [line for told in paragraphs(basis, counted) for line in _broken(told)] if basis is not None else []
 
 
 def _timeline(judged: Judged) -> list[str]:
     """A line for each of some calls, drawn from begin to end mark."""
     calls = judged.calls
-    refused, named = judged.refused(), set(judged.named())
+    refused, faults, named = judged.refused(), set(judged.faults()), set(judged.named())
     middle = calls.index(refused) if refused else 0
     start = max(0, min(middle - AROUND // 2, len(calls) - AROUND))
     some = calls[start:start + AROUND]
     first, last = some[0].begin, max(call.end if call.end is not None else call.begin for call in some)
     lines = [f"Calls {start + 1} to {start + len(some)} of {len(calls)}, each from its begin mark to its end mark",
              "= success  x failed  r refused  u undone  ~ no answer"]
-    lines += [f"> named by the verdict  * {judged.naming()}", ""] if refused else [""]
+    lines += [f"> named by the verdict  * {judged.naming()}"] if refused else []
+    aside = judged.found.why if judged.found else {}
+    lines += ["- set aside", ""] if any(call.number in aside for call in some) else [""]
     for call in some:
-        sign = ">" if call is refused else "*" if call.number in named else " "
+        sign = ">" if call.number in faults else "*" if call.number in named else "-" if call.number in aside else " "
         turn = judged.turns.get(call.number)
         ahead = f"{sign}{call.number:>6} {plain(call.client)[:12]:<12} |{_bar(call, first, last)}|"
         lines.append((f"{ahead} {operations(call)[:20]:<20}" + (f" turn {turn}" if turn else "")).rstrip())

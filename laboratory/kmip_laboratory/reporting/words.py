@@ -38,7 +38,11 @@ class Outputs(NamedTuple):
 
 def make_reports(folder: str, asking: Asking, outputs: Outputs) -> None:
     """Makes the page of one recording and what else is asked for, as new files, and prints the text."""
-    recordings = [judge(folder, asking)]
+    make_reports_of([judge(folder, asking)], outputs)
+
+
+def make_reports_of(recordings: list[Judged], outputs: Outputs) -> None:
+    """The same of recordings that were judged."""
     made = moment_of_making(os.environ.get("SOURCE_DATE_EPOCH"))
     files = [(outputs.page, page.page(recordings, made).encode("utf-8"))]
     if outputs.junit:

@@ -19,6 +19,7 @@ function details(root, data, index) {
     `client ${data.clients[data.lanes[data.lane[index]]]}`, WORDS[data.kind[index]],
     turn ? `turn ${turn}` : 'no turn', stamp === null ? 'no Time Stamp' :
       `Time Stamp ${stamp}, ${moment(stamp)}`,
+    ...(data.aside[index] < 0 ? [] : [`set aside: ${data.why[data.aside[index]]}`]),
     `marks ${data.begin[index] + 1} and ${data.end[index] < 0 ? 'none' : data.end[index] + 1}`,
   ].join(' · ');
   const [request, response] = panel.querySelectorAll('pre');

@@ -3,11 +3,11 @@
    are drawn together, each kind by its share. Texts of messages only ever become text nodes. */
 
 const SVG = 'http://www.w3.org/2000/svg';
-const KINDS = ['success', 'failed', 'refused', 'undone', 'open', 'fault'];
-const WORDS = ['success', 'failed', 'message refused', 'undone', 'no answer', 'named by the verdict'];
+const KINDS = ['success', 'failed', 'refused', 'undone', 'open', 'fault', 'aside'];
+const WORDS = ['success', 'failed', 'message refused', 'undone', 'no answer', 'named by the verdict', 'set aside'];
 const ROW = 26, BAR = 18, LABEL = 150, AXIS = 24, MOST_BARS = 1200, CLOSEST = 8;
 // Where bars are drawn together, each kind has its share of a column, the worst at the foot.
-const FROM_THE_FOOT = [4, 2, 1, 3, 0];
+const FROM_THE_FOOT = [4, 2, 1, 3, 0, 6];
 // Stripes in the bars of a kind, so that no colour alone tells it: how far below a bar's top.
 const STRIPES = { failed: [15.5], refused: [2.5, 15.5], undone: [2.5] };
 // What is in view when the page opens: so many marks at least, and at most.
@@ -40,6 +40,8 @@ class Timeline {
     this.box = root.querySelector('.lanes');
     this.place = new Map(data.number.map((number, index) => [number, index]));
     this.fault = this.place.has(data.fault) ? this.place.get(data.fault) : -1;
+    this.faults = data.faults.filter(number => this.place.has(number)).map(number => this.place.get(number));
+    this.isFault = new Set(this.faults);
     this.story = new Set(data.story.map(number => this.place.get(number)));
     this.laid = this.rowsOf([]);
     for (const svg of [this.overview, this.rows]) svg.setAttribute('preserveAspectRatio', 'none');
@@ -49,7 +51,7 @@ class Timeline {
   }
 
   end(index) { const end = this.data.end[index]; return end < 0 ? this.last + 1 : end; }
-  kind(index) { return index === this.fault ? 5 : this.data.kind[index]; }
+  kind(index) { return this.isFault.has(index) ? 5 : this.data.aside[index] >= 0 ? 6 : this.data.kind[index]; }
   width() { return Math.max(320, this.box.clientWidth || 900); }
   x(mark) { return LABEL + (mark - this.from) / (this.to - this.from) * (this.width() - LABEL - 12); }
 
@@ -90,12 +92,18 @@ class Timeline {
     this.choose(index);
   }
 
+  // The verdict's call; where several are named the next of them behind the one that is chosen.
+  toFault() {
+    const next = this.faults.indexOf(this.chosen) + 1;
+    if (this.faults.length) this.show(this.faults[next % this.faults.length]); else this.start();
+  }
+
   // The rows: what each is of, and in which each call of these stands. A client has its own; an object has as many as
   // there are calls at once that name it, that of the verdict's call the first.
   rowsOf(found) {
     if (!this.byObject) {
       const clients = this.data.lanes.map(client => this.data.clients[client]);
-      return { names: clients, of: index => [this.data.lane[index]], left: 0 };
+      return { names: clients, gone: [], of: index => [this.data.lane[index]], left: 0 };
     }
     const calls = new Map(this.fault < 0 ? [] : this.data.named[this.fault].map(object => [object, []]));
     for (const index of found) {
@@ -104,13 +112,14 @@ class Timeline {
         calls.get(object).push(index);
       }
     }
-    const names = [], rows = new Map();
+    const names = [], gone = [], rows = new Map();
     let left = 0;
     for (const [object, named] of calls) {
       if (names.length >= MOST_ROWS) { left++; continue; }
       this.rowsOfObject(object, named, names, rows);
+      while (gone.length < names.length) gone.push(this.data.gone[object]);
     }
-    return { names, of: index => rows.get(index) || [], left };
+    return { names, gone, of: index => rows.get(index) || [], left };
   }
 
   rowsOfObject(object, named, names, rows) {
@@ -164,8 +173,10 @@ class Timeline {
     const y = lane * ROW;
     this.rows.append(drawn('line', { class: 'row', x1: 0, x2: width, y1: y + ROW, y2: y + ROW }));
     if (lane && this.laid.names[lane - 1] === name) return;
-    const text = drawn('text', { x: 8, y: y + 17 }, name.length > 20 ? name.slice(0, 19) + '…' : name || '(no name)');
-    text.append(drawn('title', {}, name));
+    const since = this.laid.gone[lane];
+    const text = drawn('text', { class: since ? 'soft' : '', x: 8, y: y + 17 },
+      name.length > 20 ? name.slice(0, 19) + '…' : name || '(no name)');
+    text.append(drawn('title', {}, since ? `${name}, set aside since ${since}` : name));
     this.rows.append(text);
   }
 
@@ -192,7 +203,7 @@ class Timeline {
     const width = Math.max(4, right - left);
     if (right < LABEL) return;
     const names = ['bar', kind];
-    if (this.story.has(index) && index !== this.fault) names.push('story');
+    if (this.story.has(index) && !this.isFault.has(index)) names.push('story');
     const rect = drawn('rect', { class: names.join(' '), x: left, y, width, height: BAR, rx: 2, 'data-call': index,
       role: 'option', id: this.name(index) + (nth ? `-${nth}` : ''), 'aria-label': this.label(index),
       'aria-selected': index === this.chosen ? 'true' : 'false' });
@@ -208,10 +219,11 @@ class Timeline {
     if (kind === 'open') {
       this.rows.append(drawn('path', { class: 'break', d: `M${left + width - 9} ${y + 3}l6 6l-6 6z` }));
     }
-    if (index === this.fault) this.rows.append(drawn('path', { class: 'flag', d: `M${left - 1} ${y - 4}h10l-5 6z` }));
+    if (kind === 'fault') this.rows.append(drawn('path', { class: 'flag', d: `M${left - 1} ${y - 4}h10l-5 6z` }));
     const turn = data.turn[index];
     if (turn && width > 8 + 7 * String(turn).length) {
-      this.rows.append(drawn('text', { class: 'in', x: left + 4, y: y + 13 }, String(turn)));
+      const words = kind === 'aside' ? 'in grey' : 'in';
+      this.rows.append(drawn('text', { class: words, x: left + 4, y: y + 13 }, String(turn)));
     }
   }
 
@@ -219,7 +231,8 @@ class Timeline {
     const data = this.data, turn = data.turn[index];
     const client = data.clients[data.lanes[data.lane[index]]];
     return `call ${data.number[index]}, ${client}, ${data.what[data.does[index]]}, ${WORDS[data.kind[index]]}` +
-      (turn ? `, turn ${turn}` : '') + (index === this.fault ? ', named by the verdict' : '');
+      (turn ? `, turn ${turn}` : '') + (this.isFault.has(index) ? ', named by the verdict' : '') +
+      (data.aside[index] >= 0 ? `, set aside: ${data.why[data.aside[index]]}` : '');
   }
 
   name(index) { return `call-${this.data.recording}-${this.data.number[index]}`; }
@@ -233,7 +246,7 @@ class Timeline {
       for (const lane of this.laid.of(index)) {
         for (let column = first; column <= last; column++) {
           const at = lane * 10000 + column;
-          if (!shares.has(at)) shares.set(at, [0, 0, 0, 0, 0, 0]);
+          if (!shares.has(at)) shares.set(at, [0, 0, 0, 0, 0, 0, 0]);
           shares.get(at)[kind]++;
         }
       }
@@ -250,7 +263,8 @@ class Timeline {
     for (const kind of counts[5] ? [5] : FROM_THE_FOOT) {
       if (!counts[kind]) continue;
       const rest = foot - top, share = Math.max(3, BAR * counts[kind] / all);
-      const height = kind === 5 || kind === 0 ? rest : Math.min(rest, share);
+      const height = kind === 5 || !FROM_THE_FOOT.slice(FROM_THE_FOOT.indexOf(kind) + 1).some(above => counts[above]) ?
+        rest : Math.min(rest, share);
       this.rows.append(drawn('rect', { class: KINDS[kind], x, width: 3, y: foot - height, height }));
       foot -= height;
     }
@@ -294,8 +308,8 @@ class Timeline {
         const x = at(this.data.begin[index]) - 1;
         this.drawing.append(drawn('rect', { class: 'fault', x, width: 2, y: 0, height: 5 }));
       }
-      if (this.fault >= 0) {
-        const x = at(this.data.begin[this.fault]);
+      for (const index of this.faults) {
+        const x = at(this.data.begin[index]);
         this.drawing.append(drawn('path', { class: 'flag', d: `M${x - 5} 0h10l-5 8z` }));
         this.drawing.append(drawn('rect', { class: 'fault', x: x - 1, width: 2, y: 4, height: 24 }));
       }
@@ -322,7 +336,7 @@ class Timeline {
     this.said = root.querySelector('.said');
     const does = {
       in: () => this.zoom(0.5), out: () => this.zoom(2), left: () => this.pan(-0.5), right: () => this.pan(0.5),
-      all: () => this.view(0, this.last + 1), fault: () => this.fault >= 0 ? this.show(this.fault) : this.start(),
+      all: () => this.view(0, this.last + 1), fault: () => this.toFault(),
       order: button => {
         this.ordered = !this.ordered;
         button.setAttribute('aria-pressed', this.ordered);
@@ -379,7 +393,7 @@ class Timeline {
       ArrowDown: () => this.show(this.beside(now, 1)), ArrowUp: () => this.show(this.beside(now, -1)),
       Home: () => this.show(0), End: () => this.show(many - 1), Enter: () => this.show(now), ' ': () => this.show(now),
       PageDown: () => this.pan(0.5), PageUp: () => this.pan(-0.5), '+': () => this.zoom(0.5), '-': () => this.zoom(2),
-      '0': () => this.view(0, this.last + 1), f: () => this.show(this.fault),
+      '0': () => this.view(0, this.last + 1), f: () => this.toFault(),
     }[event.key];
     if (!does || event.ctrlKey || event.altKey || event.metaKey || !many) return;
     event.preventDefault();
