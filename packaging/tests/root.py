@@ -30,16 +30,17 @@ def make(folder: Path) -> str:
     suite = _suite()
     if suite and (shutil.which("debootstrap") or _installed("debootstrap")) and _by_debootstrap(folder, suite):
         return f"{suite}, by debootstrap"
+    give_back(folder)
     shutil.rmtree(folder, ignore_errors=True)
     _by_copies(folder)
     return "of packages that this machine has"
 
 
 def give_back(folder: Path) -> None:
-    """Lets go of what was lent to the root."""
-    for name in DEVICES:
-        place = folder / "dev" / name
-        if os.path.ismount(place):
+    """Lets go of what is mounted below the root, the last first: what was lent to it, and what a debootstrap left that was ended."""
+    places = [line.split(" ")[1] for line in Path("/proc/mounts").read_text("utf-8").splitlines()]
+    for place in reversed(places):
+        if place.startswith(f"{folder}/"):
             subprocess.run(["umount", place], check=False)
 
 

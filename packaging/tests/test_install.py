@@ -3,6 +3,7 @@
 from __future__ import annotations
 
 import os
+import re
 import shutil
 import tempfile
 import unittest
@@ -88,6 +89,9 @@ class InAFreshRoot(unittest.TestCase):
         (self.root / "tmp/declaration.ttlv").unlink()
         told = self.within("kmip_report", "-", f"{examples}/recorded/register_get")
         self.assertEqual(told, "1 recordings: 1 yes, 0 not\n")
+        walk, = re.findall(r"^    \$ (kmip_record audit /usr/.*)$", (TOP / "README.md").read_text("utf-8"), re.MULTILINE)
+        audited = self.within("bash", "-c", f"cd /tmp && {walk}; status=$?; rm -r audited; [ $status -eq 1 ]")
+        self.assertRegex(audited, r"no order explains what was recorded\n(.*\n)*audited/report.html shows it\n\Z")
         convicted = self.within("kmip_drive", "calibrate", "--fault", "flipped-bit")
         self.assertRegex(convicted, r"\| flipped-bit \| \S+ \| \d+ \| \d+ \| \d+ \w+ \| [\d.]+ \|\n\Z")
 
