@@ -1,5 +1,5 @@
 -- WHERE A RECORDING LEAVES A SEARCH NO CHOICE, beside what is set aside (profile).
-use Rattle.std.specs.Prelude.{◌≡◌, ◌<◌, ◌≤◌, ◌⊎◌, ◌+ℤ◌, ◌<ℤ◌, ℕ, ℤ, false, List, map, Option, Some, None, IsSome, slice_get}
+use Rattle.std.specs.Prelude.{◌≡◌, ◌<◌, ◌≤◌, ◌⊎◌, ◌+ℤ◌, ◌<ℤ◌, ℕ, ℤ, Bool, IsTrue, false, List, map, Option, Some, None, IsSome, slice_get}
 use Rattle.kmipa_record.specs.Declarations.{DeclarationOf}
 use Rattle.kmipa_record.specs.Marks.{MarkOf}
 use Rattle.kmipa_record.specs.Witnesses.{TurnOf, bare_turn}
@@ -55,6 +55,11 @@ pub record IsForcedBeside (marks : List MarkOf) (declared : DeclarationOf) : Typ
   pub apart : AreAllApart declared.settings.tolerance plain.steps
 
 -- ---- on the way; not promised
+
+-- it is plain so, and where that is asked, each two calls are apart
+pub record IsPlainAnd (marks : List MarkOf) (declared : DeclarationOf) (asked : Bool) : Type 0 where
+  pub plain : IsPlainBeside marks declared
+  pub apart : IsTrue asked → AreAllApart declared.settings.tolerance plain.steps
 
 -- the calls stand in the order of their begin marks
 abbrev pub AreRising : List StepOf → Type 0

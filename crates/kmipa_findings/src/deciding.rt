@@ -77,7 +77,7 @@ fn is_late(why: Why) -> bool
 }
 
 /// Whether each call is taken at its Time Stamp, and what is born has what its client asked for.
-fn grants_nothing(declaration: &Declaration) -> bool
+pub(crate) fn grants_nothing(declaration: &Declaration) -> bool
     ensures { IsTrue result → GrantsNothing (grants_declared (declaration_of declaration.now)) }
 {
     declaration.settings.tolerance == 0 && declaration.own_attributes.is_empty()

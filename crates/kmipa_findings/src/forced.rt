@@ -7,7 +7,7 @@ ghost use Rattle.kmipa_record.specs.Transcripts.{transcript_of};
 ghost use Rattle.kmipa_turns.specs.Recorded.{recorded_of};
 ghost use Rattle.kmipa_turns.specs.Steps.{step_of, taken_of};
 ghost use Rattle.kmipa_check.specs.Runs.{EndsAhead};
-ghost use Rattle.kmipa_findings.specs.Choices.{AreAllApart, AreApart, AreFar, AreRising, HasOrder, HaveEnded, HaveOrder, IsApartBehind, IsForcedBeside};
+ghost use Rattle.kmipa_findings.specs.Choices.{AreAllApart, AreApart, AreFar, AreRising, HasOrder, HaveEnded, HaveOrder, IsApartBehind, IsForcedBeside, IsPlainAnd, IsPlainBeside};
 
 use crate::calls::bare_turns;
 use kmipa_bundle::is_unordered;
@@ -27,6 +27,31 @@ pub fn is_forced_beside(
     ensures { AreRecorded (transcript_of transcript.now) → IfOk result (λ forced. IsTrue forced
         → IsForcedBeside (transcript_of transcript.now) (declaration_of declaration.now)) }
 {
+    is_plain_and(alloc, transcript, declaration, true)
+}
+
+/// Whether each call has ended, and is taken in one way alone. It is told only where it is so.
+pub(crate) fn is_plain_beside(
+    alloc: Global,
+    transcript: &Transcript,
+    declaration: &Declaration,
+) -> Result<bool, Fault>
+    ensures { AreRecorded (transcript_of transcript.now) → IfOk result (λ plain. IsTrue plain
+        → IsPlainBeside (transcript_of transcript.now) (declaration_of declaration.now)) }
+{
+    is_plain_and(alloc, transcript, declaration, false)
+}
+
+/// The same, and where that is asked, whether each two of the calls are apart.
+fn is_plain_and(
+    alloc: Global,
+    transcript: &Transcript,
+    declaration: &Declaration,
+    apart: bool,
+) -> Result<bool, Fault>
+    ensures { AreRecorded (transcript_of transcript.now) → IfOk result (λ told. IsTrue told
+        → IsPlainAnd (transcript_of transcript.now) (declaration_of declaration.now) apart) }
+{
     let calls = recorded_calls(alloc, transcript)?;
     let turns = bare_turns(alloc, &calls)?;
     if !have_ended(&calls) {
@@ -34,7 +59,7 @@ pub fn is_forced_beside(
     }
     let grants = Grants::of(declaration);
     match steps_of(alloc, &grants, &calls, &turns) {
-        Ok(steps) => Ok(are_forced(&steps, &declaration.settings)),
+        Ok(steps) => Ok(are_ordered(&steps, &declaration.settings, apart)),
         Err(Fault::Witness(_)) => Ok(false),
         Err(Fault::Memory) => Err(Fault::Memory),
     }
@@ -63,13 +88,16 @@ fn has_ended(call: &Recorded) -> bool
     call.end.is_some()
 }
 
-/// Whether these calls have items with an order, and each two are apart.
-fn are_forced(steps: &[Step], settings: &Settings) -> bool
+/// Whether these calls have items with an order; and where that is asked, whether each two are apart.
+fn are_ordered(steps: &[Step], settings: &Settings, apart: bool) -> bool
     ensures ordered { IsTrue result → HaveOrder (map step_of steps.now) }
-    ensures apart { IsTrue result → AreAllApart settings.now.tolerance (map step_of steps.now) }
+    ensures apart { IsTrue result → IsTrue apart → AreAllApart settings.now.tolerance (map step_of steps.now) }
 {
     if !have_order(steps) {
         return false;
+    }
+    if !apart {
+        return true;
     }
     if !are_rising(steps) {
         return false;
