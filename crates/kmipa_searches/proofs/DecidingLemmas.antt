@@ -1,5 +1,5 @@
 -- Calls that are plain, those that aren't, and what giving up says of them.
-use Rattle.std.proofs.Common.{◌≡◌, inl, inr, ℕ, ℤ, pos, Bool, true, false, List, [], ◌∷◌, ◌++◌, Option, Some, None, Ok, ◌<◌, ◌≤◌, length, refl, sym, ap, subst, ◌∙◌}
+use Rattle.std.proofs.Common.{◌≡◌, inl, inr, ℕ, ℤ, pos, Bool, true, false, List, [], ◌∷◌, ◌++◌, Option, Some, None, Result, Ok, Err, IfOk, ◌<◌, ◌≤◌, length, refl, sym, ap, subst, ◌∙◌}
 use Rattle.std.specs.Prelude.{map, not, is_some, String, Vec}
 use Rattle.std.specs.String.{string_bytes}
 use Rattle.std.specs.declared.alloc.Global.{Global}
@@ -23,7 +23,7 @@ use Rattle.kmipa_orders.specs.declared.found.Found.TheVariants.{Yes, GaveUp, Ref
 use Rattle.kmipa_orders.specs.declared.stuck.Reached.{Reached}
 use Rattle.kmipa_searches.specs.Searches.{SearchStops, SearchesRecords}
 use Rattle.kmipa_searches.specs.declared.searched.Searched.{Searched}
-use Rattle.kmipa_searches.specs.Deciding.{AreUnplain, DecidesOf, DecidesRecords, IsDecidedUnder, IsPlain, IsOfPlain, IsSaid, TellsDecision, TellsGivingUp, TellsObjects, TellsPlace, given_up_steps}
+use Rattle.kmipa_searches.specs.Deciding.{AreUnplain, DecidesOf, DecidesRecords, IsDecidedUnder, IsPlain, IsOfPlain, IsRefuted, IsSaid, TellsDecided, TellsDecision, TellsGivingUp, TellsObjects, TellsPlace, given_up_steps}
 use Rattle.kmipa_searches.specs.declared.judged.Decision.{Decision}
 use Rattle.kmipa_searches.specs.declared.judged.Decision.TheVariants as decision
 
@@ -128,6 +128,17 @@ decided_means marks declared budget count said recorded finds tells = (
       let decided = subst S e tells.2 in
       finds.1.2 decided.1 (subst D (same_calls marks tells.0 finds.1.0 recorded tells.1 finds.1.1) decided.0),
 )
+
+-- of a giving up
+pub decided_refutes : (marks : List MarkOf) (declared : DeclarationOf) (seconds budget count : ℕ) → AreRecorded marks → FindsIn seconds marks declared budget (GaveUp count)
+    → TellsDecided marks (grants_declared declared) budget count → IsRefuted marks declared
+decided_refutes marks declared seconds budget count recorded finds tells =
+    ((tells.0, tells.1), (decided_means marks declared budget count decision.Decided recorded finds tells).1 refl)
+
+-- what holds where a truth is told holds still, where more does
+pub if_told : {E : Type 0} {P Q : Type 0} (r : Result Bool E) → (P → Q) → IfOk r (λ b. b ≡ true → P) → IfOk r (λ b. b ≡ true → Q)
+if_told (Ok b) f p = λ yes. f (p yes)
+if_told (Err e) f p = tt
 
 -- ---- what is searched
 

@@ -114,6 +114,14 @@ TellsGivingUp marks declared budget (Refuted count objects) said = TellsObjects 
 TellsGivingUp marks declared budget (Impossible count number) said = (said ≡ Some decision.Impossible) × (IsExplained marks declared → ⊥)
 TellsGivingUp marks declared budget (OutOfTime count after) said = said ≡ Some (decision.OutOfTime after)
 
+-- No order explains the transcript: no message is outside, and no inventory that the declaration describes has a run of all calls.
+abbrev pub IsRefuted : List MarkOf → DeclarationOf → Type 0
+IsRefuted marks declared = ((calls : List CallOf) × AreCalls marks calls) × (IsExplained marks declared → ⊥)
+
+-- giving up says that it is decided
+abbrev pub TellsDecided : List MarkOf → GrantsOf → ℕ → ℕ → Type 0
+TellsDecided marks g budget count = TellsDecision marks g budget count (Ok decision.Decided)
+
 -- it is said of calls that are plain
 abbrev pub IsOfPlain : List MarkOf → Option Decision → Type 0
 IsOfPlain marks (Some decision.Decided) = Unit {0}

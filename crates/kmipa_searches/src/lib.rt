@@ -8,6 +8,7 @@ mod giving_up;
 mod json_search;
 mod judged;
 mod options;
+mod refuting;
 mod searched;
 mod searching;
 mod stuck;
@@ -16,6 +17,7 @@ mod telling_found;
 pub use giving_up::explain_search_run;
 pub use json_search::{JsonSearch, search_json};
 pub use options::SearchOptions;
+pub use refuting::is_refuted;
 pub use searched::{CallsAsked, FoundOutput, Searched};
 pub use searching::{
     forced_line, if_forced, search_read, search_records, searched_lines, tell_searched,
