@@ -32,7 +32,8 @@ use Rattle.kmipa_jobs.specs.Statuses.{IsSilent}
 use Rattle.kmipa_jobs.specs.declared.status.Status.{Status}
 use Rattle.kmipa_jobs.specs.declared.status.Status.TheVariants as status
 use Rattle.kmipa_judge.specs.Runs.{IsReadAs}
-use Rattle.kmipa_judge.specs.Searches.{IsFound, IsForcedTold, IsFoundBeside, IsGivenAs, IsPlain, IsSoughtBeside, MakesOrder, SaysNothing, SearchesAny, SearchesAsEver, SearchesBeside, SearchesEver, SearchesRecordsAny, TellsBeside, TellsOrNot, IsNoMore, as_ever, beside, unread, ever_so, beside_so, found, outside, no_memory, of_check, sought_status, tells, not_told}
+use Rattle.kmipa_judge.specs.Declaring.{IsPlain}
+use Rattle.kmipa_judge.specs.Searches.{IsFound, IsForcedTold, IsFoundBeside, IsGivenAs, IsSoughtBeside, MakesOrder, SaysNothing, SearchesAny, SearchesAsEver, SearchesBeside, SearchesEver, SearchesRecordsAny, TellsBeside, TellsOrNot, IsNoMore, as_ever, beside, unread, ever_so, beside_so, found, outside, no_memory, of_check, sought_status, tells, not_told}
 use Rattle.kmipa_judge.specs.declared.beside.Beside.{Beside}
 use Rattle.kmipa_judge.proofs.PlainLemmas.{within_plain}
 

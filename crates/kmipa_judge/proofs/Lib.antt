@@ -9,6 +9,7 @@ mod PartLemmas
 mod RuleLemmas
 mod RunLemmas
 mod StatusLemmas
+mod UnexplainedLemmas
 mod UnjudgedLemmas
 pub mod PlainLemmas
 pub mod FoundLemmas

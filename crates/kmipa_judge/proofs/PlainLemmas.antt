@@ -9,7 +9,7 @@ use Rattle.kmipa_record.specs.declared.declaration_header.DeclarationHeader.{Dec
 use Rattle.kmipa_record.specs.declared.reach.Reach.{Reach}
 use Rattle.kmipa_record.specs.declared.reach.Reach.TheVariants.{Aside, Judged}
 use Rattle.kmipa_record.specs.declared.settings.Settings.{Settings}
-use Rattle.kmipa_judge.specs.Searches.{IsPlain}
+use Rattle.kmipa_judge.specs.Declaring.{IsPlain}
 
 -- records change no setting
 settings_stay : (reach : Reach) (h : DeclarationHeader) (ahead : DeclarationOf) (items : List Tree) (declared : DeclarationOf) → Follow reach h ahead items declared

@@ -7,7 +7,6 @@ use Rattle.kmipa_record.specs.Marks.{MarkOf}
 use Rattle.kmipa_record.specs.declared.head.Head.{Head}
 use Rattle.kmipa_record.specs.Writing.{Appends}
 use Rattle.kmipa_check.specs.declared.auditing.AuditFault.{AuditFault}
-use Rattle.kmipa_findings.specs.Outcomes.{Judges}
 use Rattle.kmipa_findings.specs.declared.finding.Outcome.{Outcome}
 use Rattle.kmipa_findings.specs.declared.finding.Outcome.TheVariants as outcome
 use Rattle.kmipa_runs.specs.Lines.{fault_status}
@@ -18,6 +17,7 @@ use Rattle.kmipa_jobs.specs.declared.status.Status.{Status}
 use Rattle.kmipa_msgs.specs.declared.rules.Visibility.{Visibility}
 use Rattle.kmipa_judge.specs.Declaring.{is_presumed, judging_by, nothing_known}
 use Rattle.kmipa_judge.specs.Rules.{AreExplaining}
+use Rattle.kmipa_judge.specs.Unexplained.{ComesTo}
 use Rattle.kmipa_judge.specs.Clients.{AreOfOne}
 use Rattle.kmipa_judge.specs.Opinions.{Counts, IsFair}
 use Rattle.kmipa_judge.specs.Forms.{ahead}
@@ -37,7 +37,7 @@ pub from_nothing : (Is : List ℕ → Type 0) (old new : List ℕ) → old ≡ [
 from_nothing Is old new none a = subst Is (sym (a.after ∙ ap (λ (l : List ℕ). l ++ a.appended) none)) a.is
 
 pub told_records : (seconds : ℕ) (before : Option Members) (assumed : Bool) (marks : List MarkOf) (declared : DeclarationOf) (outcome : Outcome) (rules : List Rule) (said : Status)
-    (lines witness declaration : List ℕ) → Judges seconds marks declared outcome → IsFair (is_presumed assumed declared.settings.visibility) marks outcome → AreExplaining assumed marks declared outcome rules
+    (lines witness declaration : List ℕ) → ComesTo seconds marks declared outcome → IsFair (is_presumed assumed declared.settings.visibility) marks outcome → AreExplaining assumed marks declared outcome rules
     → (Prints before assumed marks declared outcome rules said lines × Makes declared outcome witness declaration) ⊎ (IsSilent said lines × MakesNothing witness declaration)
     → JudgesRecords seconds before assumed marks declared said lines witness declaration
 told_records seconds before assumed marks declared outcome rules said lines witness declaration judges fair explaining (inl p) =

@@ -7,7 +7,6 @@ use Rattle.kmipa_record.specs.Marks.{MarkOf}
 use Rattle.kmipa_record.specs.Witnesses.{witness_of}
 use Rattle.kmipa_trail.specs.Tallies.{TallyOf}
 use Rattle.kmipa_trail.specs.Told.{tally_of}
-use Rattle.kmipa_findings.specs.Outcomes.{Judges}
 use Rattle.kmipa_findings.specs.declared.finding.Outcome.{Outcome}
 use Rattle.kmipa_findings.specs.declared.finding.Outcome.TheVariants as outcome
 use Rattle.kmipa_jobs.specs.declared.status.Status.{Status}
@@ -21,6 +20,7 @@ use Rattle.kmipa_judge.specs.Opinions.{IsFair, opinion_by, opinion_found, opinio
 use Rattle.kmipa_judge.specs.Forms.{ahead}
 use Rattle.kmipa_judge.specs.Runs.{IsReadAs, IsUsed, JudgesFiles, judged, unread, unsaid, tells, no_memory, Makes, Prints, PrintsFaultSo, is_assumed}
 use Rattle.kmipa_judge.specs.Statuses.{IsConvicted, IsExplained}
+use Rattle.kmipa_judge.specs.Unexplained.{ComesTo}
 use Rattle.kmipa_judge.specs.declared.form.JudgeForm.{JudgeForm}
 use Rattle.kmipa_judge.specs.declared.rule.Rule.{Rule}
 use Rattle.kmipa_judge.proofs.RunLemmas.{fault_said}
@@ -70,7 +70,7 @@ by_no n k decided denied = by (n == 0) denied
 -- ---- of an outcome
 
 outcome_done : {R : Type 0} (seconds : ℕ) (t : Input R) (d : Option (Input R)) (marks : List MarkOf) (declared : DeclarationOf) (o : Outcome) (said : Status) (witness used : List ℕ)
-    → IsReadAs t marks → IsUsed d declared → Judges seconds marks declared o → said ≡ opinion_status (opinion_of o) → Makes declared o witness used → said ≡ status.Done
+    → IsReadAs t marks → IsUsed d declared → ComesTo seconds marks declared o → said ≡ opinion_status (opinion_of o) → Makes declared o witness used → said ≡ status.Done
     → IsExplained t d witness
 outcome_done seconds t d marks declared (outcome.Undecided u) said witness used read is judges ends makes done = let clash : status.GaveUp ≡ status.Done = sym ends ∙ done in absurd cc
 outcome_done seconds t d marks declared (outcome.Judged j) said witness used read is judges ends makes done =
@@ -89,7 +89,7 @@ outcome_done seconds t d marks declared (outcome.Judged j) said witness used rea
     }
 
 outcome_no : {R : Type 0} (seconds : ℕ) (t : Input R) (d : Option (Input R)) (marks : List MarkOf) (declared : DeclarationOf) (o : Outcome) (said : Status)
-    → IsReadAs t marks → IsUsed d declared → Judges seconds marks declared o → IsFair (is_presumed (is_assumed d) declared.settings.visibility) marks o → said ≡ opinion_status (opinion_of o)
+    → IsReadAs t marks → IsUsed d declared → ComesTo seconds marks declared o → IsFair (is_presumed (is_assumed d) declared.settings.visibility) marks o → said ≡ opinion_status (opinion_of o)
     → said ≡ status.No → IsConvicted t d
 outcome_no seconds t d marks declared (outcome.Undecided u) said read is judges fair ends denied = let clash : status.GaveUp ≡ status.No = sym ends ∙ denied in absurd cc
 outcome_no seconds t d marks declared (outcome.Judged j) said read is judges fair ends denied =

@@ -1,5 +1,5 @@
 -- BY WHICH DECLARATION A RECORDING IS JUDGED (profile).
-use Rattle.std.specs.Prelude.{pos, Bool, false}
+use Rattle.std.specs.Prelude.{◌≡◌, ◌≢◌, pos, Bool, false, []}
 use Rattle.kmipa_msgs.specs.declared.rules.Unjudged.{Unjudged}
 use Rattle.kmipa_msgs.specs.declared.rules.Unjudged.TheVariants.{Refused, SetAside, Unknown}
 use Rattle.kmipa_msgs.specs.declared.rules.Visibility.{Visibility}
@@ -31,3 +31,9 @@ abbrev pub is_presumed : Bool → Visibility → Bool
 is_presumed assumed Everyone = assumed
 is_presumed assumed MayHide = false
 is_presumed assumed MustHide = false
+
+-- the declaration sets no identifier aside, and each client sees every object
+pub record IsPlain (declared : DeclarationOf) : Type 0 where
+  pub known : declared.settings.unjudged ≢ Unknown
+  pub seen : declared.settings.visibility ≡ Everyone
+  pub none : declared.asides ≡ []

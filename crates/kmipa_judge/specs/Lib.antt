@@ -1,5 +1,6 @@
 pub mod Declaring
 pub mod Clients
+pub mod Unexplained
 pub mod Opinions
 pub mod Rules
 pub mod Renumbered

@@ -14,7 +14,6 @@ use Rattle.kmipa_record.specs.declared.head.Head.{Head}
 use Rattle.kmipa_record.specs.declared.reach.Reach.TheVariants.{Aside}
 use Rattle.kmipa_check.specs.declared.auditing.AuditFault.{AuditFault}
 use Rattle.kmipa_check.specs.declared.auditing.AuditFault.TheVariants as audit
-use Rattle.kmipa_findings.specs.Outcomes.{Judges}
 use Rattle.kmipa_findings.specs.declared.finding.Outcome.{Outcome}
 use Rattle.kmipa_findings.specs.declared.finding.Outcome.TheVariants.{Judged, Undecided}
 use Rattle.kmipa_runs.specs.Knowing.{Known}
@@ -29,6 +28,7 @@ use Rattle.kmipa_judge.specs.Object.{TellsFaultWhole, TellsWhole}
 use Rattle.kmipa_judge.specs.Opinions.{IsFair}
 use Rattle.kmipa_judge.specs.Parts.{IsMeaning}
 use Rattle.kmipa_judge.specs.Rules.{AreExplaining}
+use Rattle.kmipa_judge.specs.Unexplained.{ComesTo}
 use Rattle.kmipa_judge.specs.Unjudged.{PrintsUnjudged}
 use Rattle.kmipa_judge.specs.declared.form.JudgeForm.{JudgeForm}
 use Rattle.kmipa_judge.specs.declared.rule.Rule.{Rule}
@@ -65,7 +65,7 @@ PrintsFaultSo (Some before) fault said lines = TellsFaultWhole before fault said
 -- The marks of a transcript are judged by a declaration, or by none, where nothing is declared: what is told and made is that of what judging them comes to.
 pub record TellsOutcome (seconds : ℕ) (before : Option Members) (assumed : Bool) (marks : List MarkOf) (declared : DeclarationOf) (said : Status) (lines witness declaration : List ℕ) : Type 0 where
   pub outcome : Outcome
-  pub judges : Judges seconds marks declared outcome
+  pub judges : ComesTo seconds marks declared outcome
   pub fair : IsFair (is_presumed assumed declared.settings.visibility) marks outcome
   pub rules : List Rule
   pub explaining : AreExplaining assumed marks declared outcome rules

@@ -33,16 +33,11 @@ use Rattle.kmipa_searches.specs.declared.searched.Searched.{Searched}
 use Rattle.kmipa_jobs.specs.Statuses.{IsSilent}
 use Rattle.kmipa_jobs.specs.declared.status.Status.{Status}
 use Rattle.kmipa_jobs.specs.declared.status.Status.TheVariants as status
+use Rattle.kmipa_judge.specs.Declaring.{IsPlain}
 use Rattle.kmipa_judge.specs.Runs.{IsReadAs}
 use Rattle.kmipa_judge.specs.declared.beside.Beside.{Beside}
 
 -- ---- by what it is searched
-
--- the declaration sets no identifier aside, and each client sees every object
-pub record IsPlain (declared : DeclarationOf) : Type 0 where
-  pub known : declared.settings.unjudged ≢ Unknown
-  pub seen : declared.settings.visibility ≡ Everyone
-  pub none : declared.asides ≡ []
 
 -- the bytes that came, to the end that was seen, are this declaration
 pub record IsGivenAs {R : Type 0} (d : Input R) (declared : DeclarationOf) : Type 0 where

@@ -6,10 +6,10 @@ use Rattle.kmipa_record.specs.Marks.{MarkOf}
 use Rattle.kmipa_record.specs.Witnesses.{TurnOf, IsWitness}
 use Rattle.kmipa_trail.specs.Tallies.{TallyOf}
 use Rattle.kmipa_trail.specs.Verdicts.{IsAccepted}
-use Rattle.kmipa_findings.specs.Findings.{IsUnexplained}
 use Rattle.kmipa_judge.specs.Clients.{AreOfOne}
 use Rattle.kmipa_judge.specs.Declaring.{is_presumed}
 use Rattle.kmipa_judge.specs.Runs.{IsReadAs, IsUsed, is_assumed}
+use Rattle.kmipa_judge.specs.Unexplained.{HasNoOrder}
 
 -- The bytes that are made are a witness, that is accepted by the declaration that is used: nothing is set aside by it alone, and some item is judged.
 pub record IsExplained {R : Type 0} (t : Input R) (d : Option (Input R)) (witness : List ℕ) : Type 0 where
@@ -31,5 +31,5 @@ pub record IsConvicted {R : Type 0} (t : Input R) (d : Option (Input R)) : Type 
   pub read : IsReadAs t marks
   pub declared : DeclarationOf
   pub used : IsUsed d declared
-  pub unexplained : IsUnexplained marks declared
+  pub unexplained : HasNoOrder marks declared
   pub of_one : is_presumed (is_assumed d) declared.settings.visibility ≡ true → AreOfOne marks

@@ -16,7 +16,7 @@ pub(crate) fn counts_for(presumed: bool, marks: &[Mark]) -> bool
 }
 
 /// Whether all calls came from clients of one identity: that of the first.
-fn are_of_one(marks: &[Mark]) -> bool
+pub(crate) fn are_of_one(marks: &[Mark]) -> bool
     ensures { AreRecorded (map mark_of marks.now) → IsTrue result ↔ AreOfOne (map mark_of marks.now) }
 {
     match marks.first() {

@@ -14,9 +14,11 @@ ghost use Rattle.kmipa_judge.specs.Object.{TellsAlong, TellsBehind, TellsWhole};
 ghost use Rattle.kmipa_judge.specs.Declaring.{is_presumed};
 ghost use Rattle.kmipa_judge.specs.Opinions.{Counts, IsFair};
 ghost use Rattle.kmipa_judge.specs.Runs.{JudgesRecords, Makes, MakesNothing, Prints, PrintsWhole};
+ghost use Rattle.kmipa_judge.specs.Unexplained.{ComesTo};
 ghost use Rattle.kmipa_judge.specs.Unjudged.{PrintsAlong, PrintsUnjudged};
 
 use crate::clients::counts_for;
+use crate::deciding::{convicted, decided_beside};
 use crate::declaring::is_presumed;
 use crate::explaining::rules_explaining;
 use crate::found_object::{tally_object, tell_found, tell_steps};
@@ -28,7 +30,7 @@ use crate::reduced::find_reduced;
 use crate::rule::Rule;
 use crate::rule_object::tell_rules;
 use crate::run::JudgeRun;
-use crate::searched::find_by_search;
+use crate::searched::{Looked, look_as_ever};
 use crate::unjudged_lines::unjudged_lines;
 use crate::unjudged_object::tell_unjudged;
 use kmipa_findings::{Judged, Outcome, judge};
@@ -102,7 +104,7 @@ fn tell_with_rules<W: Watch + Drop>(
     requires recorded { AreRecorded (transcript_of records.now.transcript) }
     requires declared { AreDeclared (declaration_of records.now.declaration) }
     ensures told { (seconds : ℕ) → AreRecorded (transcript_of records.now.transcript)
-        → Judges seconds (transcript_of records.now.transcript) (declaration_of records.now.declaration) outcome.now
+        → ComesTo seconds (transcript_of records.now.transcript) (declaration_of records.now.declaration) outcome.now
         → IsFair (is_presumed records.now.assumed (declaration_of records.now.declaration).settings.visibility)
         (transcript_of records.now.transcript) outcome.now
         → JudgesRecords seconds (option_map members_of telling.opened) records.now.assumed
@@ -125,7 +127,7 @@ fn find_fairly<W: Watch + Drop>(
 ) -> Result<Outcome, Fault>
     requires { AreDeclared (declaration_of records.now.declaration) }
     ensures told { AreRecorded (transcript_of records.now.transcript) → IfOk result
-        (Judges (W.seconds paced.old.watch) (transcript_of records.now.transcript) (declaration_of records.now.declaration)) }
+        (ComesTo (W.seconds paced.old.watch) (transcript_of records.now.transcript) (declaration_of records.now.declaration)) }
     ensures fair { AreRecorded (transcript_of records.now.transcript) → IfOk result
         (IsFair (is_presumed records.now.assumed (declaration_of records.now.declaration).settings.visibility)
         (transcript_of records.now.transcript)) }
@@ -146,7 +148,7 @@ fn find_fairly<W: Watch + Drop>(
 /// An outcome as it is, where it counts that no order explains every answer; else the same, but that it convicts nobody.
 fn fair(outcome: Outcome, counts: bool) -> Outcome
     ensures judges { (seconds : ℕ) (marks : List MarkOf) (declared : DeclarationOf)
-        → Judges seconds marks declared outcome → Judges seconds marks declared result }
+        → ComesTo seconds marks declared outcome → ComesTo seconds marks declared result }
     ensures fair { (presumed : Bool) (marks : List MarkOf) → Counts presumed marks counts → IsFair presumed marks result }
 {
     if counts {
@@ -161,7 +163,8 @@ fn fair(outcome: Outcome, counts: bool) -> Outcome
     }
 }
 
-/// What is found in a transcript: an order that a search finds, where a check accepts it; or else what judging comes to.
+/// What is found in a transcript: an order that a search of all calls finds, where a check accepts it; or else what judging comes to. It is told as decided
+/// where a search decides so, of all calls or beside what is set aside.
 fn find<W: Watch + Drop>(
     alloc: Global,
     transcript: &Transcript,
@@ -171,11 +174,18 @@ fn find<W: Watch + Drop>(
 ) -> Result<Outcome, Fault>
     requires { AreDeclared (declaration_of declaration.now) }
     ensures told { AreRecorded (transcript_of transcript.now) → IfOk result
-        (Judges (W.seconds paced.old.watch) (transcript_of transcript.now) (declaration_of declaration.now)) }
+        (ComesTo (W.seconds paced.old.watch) (transcript_of transcript.now) (declaration_of declaration.now)) }
 {
-    match find_by_search(alloc, transcript, declaration, budget, &paced.watch)? {
-        Some(outcome) => Ok(outcome),
-        None => find_beside(alloc, transcript, declaration, budget, paced),
+    match look_as_ever(alloc, transcript, declaration, budget, &paced.watch)? {
+        Looked::Found(outcome) => Ok(outcome),
+        Looked::Refuted => {
+            let outcome = find_beside(alloc, transcript, declaration, budget, paced)?;
+            Ok(convicted(outcome))
+        }
+        Looked::Undecided => {
+            let outcome = find_beside(alloc, transcript, declaration, budget, paced)?;
+            decided_beside(alloc, transcript, declaration, outcome, budget, paced)
+        }
     }
 }
 

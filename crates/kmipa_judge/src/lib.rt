@@ -6,6 +6,7 @@ mod at_length;
 mod beside;
 mod clients;
 mod clues;
+mod deciding;
 mod declaring;
 mod explaining;
 mod form;

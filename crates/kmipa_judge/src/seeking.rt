@@ -13,7 +13,8 @@ ghost use Rattle.kmipa_runs.specs.Lines.{PrintsFault};
 ghost use Rattle.kmipa_searches.specs.Searches.{PrintsSearch, SearchStops, SearchesRecords};
 ghost use Rattle.kmipa_jobs.specs.Statuses.{IsSilent};
 ghost use Rattle.kmipa_jobs.specs.declared.status.Status.{Status};
-ghost use Rattle.kmipa_judge.specs.Searches.{IsForcedTold, IsFound, IsPlain, IsSoughtBeside, SaysNothing, SearchesAny, SearchesBeside, SearchesEver, SearchesRecordsAny, TellsOrNot};
+ghost use Rattle.kmipa_judge.specs.Declaring.{IsPlain};
+ghost use Rattle.kmipa_judge.specs.Searches.{IsForcedTold, IsFound, IsSoughtBeside, SaysNothing, SearchesAny, SearchesBeside, SearchesEver, SearchesRecordsAny, TellsOrNot};
 
 use crate::at_length::seek_at_length;
 use crate::beside::{Beside, beside_lines, order_made};
@@ -189,7 +190,7 @@ fn search_outside<W: Watch>(
 }
 
 /// Whether a declaration sets no identifier aside, and each client sees every object.
-fn is_plain(declaration: &Declaration) -> bool
+pub(crate) fn is_plain(declaration: &Declaration) -> bool
     ensures { IsTrue result → IsPlain (declaration_of declaration.now) }
 {
     is_seen(declaration.settings.visibility)
