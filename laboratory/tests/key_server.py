@@ -10,7 +10,8 @@ from pathlib import Path
 from typing import Iterator, Optional
 
 import messages
-from laboratory import PYKMIP_PYTHON, SECONDS, Begin, Laboratory, free_port, wait_until
+from laboratory import PYKMIP_PYTHON, SECONDS, Begin, Laboratory, wait_until
+from ports import free_port
 
 HERE = Path(__file__).resolve().parent
 PYKMIP = HERE.parent / "pykmip"

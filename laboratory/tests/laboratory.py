@@ -5,7 +5,6 @@ from __future__ import annotations
 import contextlib
 import io
 import os
-import random
 import re
 import resource
 import signal
@@ -29,8 +28,6 @@ AUDITOR = os.environ.get("KMIP_AUDIT", str(FOLDER.parent / "crates/kmip_audit/ou
 PYKMIP_PYTHON = os.environ.get("PYKMIP_PYTHON", "")
 # How long something is waited for that has to come: much longer than it takes, since the machine may do much else.
 SECONDS = 60
-# Ports from here up to those that the system gives to whoever asks for any.
-FIRST_PORT = 10_000
 
 sys.path.insert(0, str(FOLDER))
 
@@ -70,16 +67,6 @@ def audit(folder: Path, transcript: str = "transcript.ttlv", declaration: str = 
     done = subprocess.run([AUDITOR, "check", transcript, declaration, witness], cwd=folder, capture_output=True,
                           text=True, timeout=SECONDS * 3)
     return re.sub(r"^sealed: .*\n\Z", "", done.stdout, flags=re.MULTILINE)
-
-
-def free_port() -> int:
-    """A port that nothing listens at, and that the system gives to nobody who asks for any: it stays free so."""
-    given = Path("/proc/sys/net/ipv4/ip_local_port_range")
-    last = int(given.read_text().split()[0]) if given.exists() else 32_768
-    while True:
-        port = random.randrange(FIRST_PORT, last) if last > FIRST_PORT else 0
-        with contextlib.suppress(OSError), socket.create_server(("127.0.0.1", port)) as listener:
-            return int(listener.getsockname()[1])
 
 
 def wait_until(holds: Callable[[], object], what: str) -> None:

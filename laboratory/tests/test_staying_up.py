@@ -20,7 +20,8 @@ from unittest import mock
 
 import messages
 import stub
-from laboratory import RECORDER, SECONDS, Laboratory, Limit, free_port, wait_until
+from laboratory import RECORDER, SECONDS, Laboratory, Limit, wait_until
+from ports import free_port
 from test_proxy import STAMP, at_once, never
 
 from kmip_laboratory import peer, tls

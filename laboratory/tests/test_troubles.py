@@ -10,7 +10,8 @@ import unittest
 from pathlib import Path
 
 import certificates
-from laboratory import InFolder, Laboratory, free_port, run, run_apart
+from laboratory import InFolder, Laboratory, run, run_apart
+from ports import free_port
 from test_proxy import at_once
 
 
