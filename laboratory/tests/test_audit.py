@@ -13,7 +13,9 @@ import sessions
 from laboratory import AUDITOR, FOLDER, InFolder, run
 from messages import item, number, version
 
-from kmip_laboratory.auditing.apart import about, convicting
+from kmip_laboratory.auditing.about import about
+from kmip_laboratory.auditing.apart import convicting
+from kmip_laboratory.auditing.part import MOST_FINDINGS
 from kmip_laboratory.auditor import Auditor
 from kmip_laboratory.calls import read_transcript
 from kmip_laboratory.judgement import Finding, Judgement, Sort
@@ -65,13 +67,13 @@ class Audit(InFolder):
         lines = self.audited("register_then_get_other_byte", "--blind", "--out", "made", status=1)
         self.assertIn("no order explains what was recorded", lines)
         self.assertEqual(lines[:2], ["convicted: 1 findings", "finding 1: turn 2 call 2 item 1 why 9 BytesDiffer"])
-        self.assertIn("already these 2 calls can't be explained: 1, 2; they are in made/part", lines)
-        self.assertTrue((self.folder / "made/part/witness.ttlv").is_file())
+        self.assertIn("of finding 1 already these 2 calls can't be explained: 1, 2; they are in made/part-1", lines)
+        self.assertTrue((self.folder / "made/part-1/witness.ttlv").is_file())
         failures = list(ElementTree.parse(self.folder / "made/junit.xml").getroot().iter("failure"))
         self.assertEqual(len(failures), 1)
         shown = (EXAMPLES / "register_then_get_other_byte" / SAID).read_bytes()
         key = shown[shown.index(bytes.fromhex("4200430800000010")) + 8:][:16]
-        blinded = (self.folder / "made/blinded" / SAID).read_bytes()
+        blinded = (self.folder / "made/blinded/part-1" / SAID).read_bytes()
         self.assertIn(key, shown)
         self.assertNotIn(key, blinded)
 
@@ -161,10 +163,38 @@ class Audit(InFolder):
             writer.end(call, sessions.response(sessions.GET, stamp, told))
         lines = self.audited(path, "--out", "made", status=1)
         self.assertEqual(lines[0], "suspected: 1 findings")
-        self.assertIn("already these 2 calls can't be explained: 2, 3; they are in made/part", lines)
+        self.assertIn("of finding 1 already these 2 calls can't be explained: 2, 3; they are in made/part-1", lines)
         page = (self.folder / "made/report.html").read_text("utf-8")
-        self.assertLess(page.index("made/part: convicted: 9 BytesDiffer"), page.index("made: suspected: 9 BytesDiffer"))
-        self.assertIn("already the few calls in made/part can&#x27;t be explained", page)
+        self.assertLess(page.index("made/part-1: convicted: 9 BytesDiffer"),
+                        page.index("made: suspected: 9 BytesDiffer"))
+        self.assertIn("already the few calls in made/part-1 can&#x27;t be explained", page)
+
+    def test_each_of_the_first_findings_has_a_part_of_its_own(self) -> None:
+        """A part has the answer of its finding and none of the others': the auditor finds that alone in it."""
+        shown = [bytes(15) + bytes([number]) for number in range(1, MOST_FINDINGS + 2)]
+        said = self.brought(*shown)
+        for words, name in (((), "apart"), (("--empty",), "shrunk")):
+            lines = self.audited(said, *words, "--out", name, "--blind", status=1)
+            self.assertIn(f"convicted: {MOST_FINDINGS + 1} findings", lines)
+            told = [line for line in lines if line.startswith("of finding ")]
+            self.assertEqual(told, [f"of finding {place} already these 2 calls can't be explained: 1, {place + 1}; they "
+                                    f"are in {name}/part-{place}" for place in range(1, MOST_FINDINGS + 1)])
+            parts = [f"part-{place}" for place in range(1, MOST_FINDINGS + 1)]
+            made = self.folder / name
+            self.assertEqual(sorted(each for each in os.listdir(made) if each.startswith("part")), parts)
+            self.assertEqual(sorted(os.listdir(made / "blinded")), parts)
+            for place, part in enumerate(parts, 2):
+                found = Auditor(AUDITOR).judge(str(made / part / SAID), None, str(made / "other"), None, 100)
+                self.assertEqual([(finding.call, finding.name) for finding in found.findings], [(place, "BytesDiffer")])
+
+    def test_where_no_finding_has_a_part_the_whole_has(self) -> None:
+        """Of a Time Stamp that runs back two calls are to blame, which have no object in common."""
+        register = number(0x420057, 5, 2) + sessions.attributes(number(0x42002C, 2, 12)) + sessions.key(bytes(16))
+        said = self.transcript(*((sessions.request(sessions.REGISTER, register), sessions.response(
+            sessions.REGISTER, 1_700_000_000 - place, sessions.identifier(name))) for place, name in enumerate("kl")))
+        lines = self.audited(said, "--empty", "--out", "made", status=1)
+        self.assertIn("finding 1: turn 2 call 2 item 0 why 2 StampRunsBack", lines)
+        self.assertIn("already these 2 calls can't be explained: 1, 2; they are in made/part", lines)
 
     def test_calls_that_may_have_changed_anything_stay_with_the_others(self) -> None:
         """What is left out does something to what it names alone: a call that may do more stays, and so does one whose
@@ -192,9 +222,9 @@ class Audit(InFolder):
             folder = self.folder / name
             folder.mkdir()
             shutil.copy(EXAMPLES / "recorded/three_clients" / SAID, folder / SAID)
-            apart = convicting(folder, found, Auditor(AUDITOR), 100_000)
-            self.assertEqual(apart is not None, name == "13", name)
-            self.assertEqual((folder / "part").exists(), name == "13")
+            parts = convicting(folder, found, Auditor(AUDITOR), 100_000)
+            self.assertEqual(bool(parts), name == "13", name)
+            self.assertEqual((folder / "part-1").exists(), name == "13")
 
     def test_nothing_is_written_over(self) -> None:
         """A folder that is there stays as it is."""

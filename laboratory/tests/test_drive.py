@@ -14,8 +14,9 @@ from laboratory import audit as checked
 
 from kmip_laboratory.auditor import Auditor
 from kmip_laboratory.driving import calibrate, mixes, plan, wire
-from kmip_laboratory.auditing.decide import PART, decide
+from kmip_laboratory.auditing.decide import decide
 from kmip_laboratory.auditing.ending import convicted
+from kmip_laboratory.auditing.part import PART, Part
 from kmip_laboratory.driving.faults import FAULTS, description
 from kmip_laboratory.driving.numbers import Operation
 from kmip_laboratory.driving.words import main
@@ -197,12 +198,12 @@ class OnTheWire(Laboratory):
         self.assertEqual(done.returncode, 1, done.stdout + done.stderr)
         self.assertIn("no order explains what was recorded", done.stdout)
         self.assertRegex(done.stdout, r"\nfinding 1: turn \d+ call \d+ item \d+ why 9 BytesDiffer\nat ")
-        searched = subprocess.run([AUDITOR, "search", "transcript.ttlv", "declaration.ttlv", "none"], cwd=out / "part",
+        searched = subprocess.run([AUDITOR, "search", "transcript.ttlv", "declaration.ttlv", "none"], cwd=out / "part-1",
                                   capture_output=True, text=True, timeout=SECONDS * 3)
         self.assertEqual(searched.returncode, 4)
         self.assertLess(int(re.search(r"gave up: (\d+) steps", searched.stdout).group(1)), 1_000_000)
         self.assertIn("(reason 9, BytesDiffer)", (out / "report.html").read_text("utf-8"))
-        self.assertIn(f"This was drawn from {out / 'transcript.ttlv'}, ", (out / "part/transcript.ttlv.origin").read_text())
+        self.assertIn(f"This was drawn from {out / 'transcript.ttlv'}, ", (out / "part-1/transcript.ttlv.origin").read_text())
 
     def test_troubles_are_one_line(self) -> None:
         for words, told in ((("--mix", "none"), "the mix none can't be read"),
@@ -259,7 +260,7 @@ class Convictions(Laboratory):
         calls = {mark.call for mark in read_marks(str(folder / PART / "transcript.ttlv"))}
         self.assertEqual(calls, set(decision.part))
         self.assertLess(len(calls), 60)
-        told, counted = convicted(folder, decision.part)
+        told, counted = convicted([Part(folder / PART, decision.part)])
         self.assertEqual(told, "no order explains what was recorded")
         self.assertTrue(counted.startswith(f"already these {len(calls)} calls can't be explained: "), counted)
         self.assertTrue(decision.why.explanation)

@@ -8,15 +8,14 @@ from typing import NamedTuple, Optional
 from ..auditor import Auditor
 from ..calls import Call, read_transcript
 from ..files import write_file
-from ..origin import origin_files
 from ..recording import order
 from ..recordings import DECLARATION, TRANSCRIPT, WITNESS
 from ..shrinking.parts import is_plain, read_declaration
 from ..shrinking.smallest import shrunk
 from ..shrinking.trials import Trials
 from ..verdicts import Outcome, Verdict
+from .part import PART, name_source
 
-PART = "part"
 # Calls that convict are looked for by shorter searches than that of the whole.
 STEPS_OF_A_PART = 20_000
 # So many of the calls that ended last are left out at most, to find an order of the others.
@@ -62,9 +61,8 @@ def decide(folder: Path, auditor: Auditor, budget: int) -> Decision:
             left = transcript.calls
         if left is None:
             return Decision(found.text, found.outcome, found.status, [])
-        _write(folder / PART, trials, left)
-        for path, data in origin_files(str(folder / PART / TRANSCRIPT), str(folder / TRANSCRIPT), transcript.chain):
-            write_file(path, data)
+        write(folder / PART, trials, left)
+        name_source(folder / PART, folder, transcript)
     numbers = [call.number for call in left]
     return Decision(found.text, found.outcome, 1, numbers, auditor.explained("check", *_files(folder / PART)))
 
@@ -78,8 +76,8 @@ def _files(folder: Path) -> tuple[str, str, str]:
     return str(folder / TRANSCRIPT), str(folder / DECLARATION), str(folder / WITNESS)
 
 
-def _write(folder: Path, trials: Trials, calls: list[Call]) -> None:
-    """The recording of these calls alone, in a new folder."""
+def write(folder: Path, trials: Trials, calls: list[Call]) -> None:
+    """The recording of these calls alone, in a new folder, with an order of them."""
     folder.mkdir()
     for path, data in zip(_files(folder), (*trials.files(calls), order.witness(_order(trials, calls)))):
         write_file(path, data)

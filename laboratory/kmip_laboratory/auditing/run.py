@@ -10,20 +10,19 @@ from ..auditor import Auditor
 from ..blinding.words import blind
 from ..judgement import Judgement, Sort
 from ..recordings import DECLARATION, TRANSCRIPT, WITNESS
-from ..reporting.judging import Asking, Judged, judge
+from ..reporting.judging import Asking, Judged
 from ..reporting.words import Outputs, make_reports_of
 from ..trouble import Trouble, say
 from .apart import convicting
-from .decide import PART, decide
-from .ending import convicted
+from .ending import convicted, note
 from .finding import Found, files_in, find
 from .gather import Source, gather
+from .part import Part
+from .shrink import shrunk_parts
 
 REPORT, JUNIT = "report.html", "junit.xml"
 BLINDED = "blinded"
 CONVICTED = 1
-# What the page says of a recording that is convicted by some of its calls alone.
-OF_PART = "No order explains it all the same: already the few calls in {} can't be explained. They stand below."
 
 
 class Asked(NamedTuple):
@@ -50,29 +49,26 @@ def conclude(asked: Asked, auditor: Auditor) -> int:
     judged = find(files_in(folder), auditor, asked.budget)
     print("\n".join(judged.told()), flush=True)
     asking = Asking(asked.budget, program=auditor.program)
-    part = _part(judged, asked, asking)
-    shown = [] if judged.said.status == CONVICTED else part
-    note = OF_PART.format(shown[0].folder) if shown else ""
-    _report(lambda: [judged.looked_at(asking)._replace(note=note), *shown], asked)
+    parts = _parts(judged, asked, auditor)
+    shown = [] if judged.said.status == CONVICTED else parts
+    _report(lambda: [judged.looked_at(asking)._replace(note=note(shown)), *(part.looked_at(asking) for part in shown)],
+            asked)
     if asked.is_blinded:
-        print(_blinded(folder, folder / PART if part else folder))
-    return CONVICTED if part else judged.said.status
+        print(_blinded(folder, [part.folder for part in parts] or [folder]))
+    return CONVICTED if parts else judged.said.status
 
 
-def _part(judged: Found, asked: Asked, asking: Asking) -> list[Judged]:
-    """The few calls that convict by themselves, where there are such; then they are told, and have a folder."""
-    folder, said, auditor = asked.folder, judged.said, Auditor(asking.program)
+def _parts(judged: Found, asked: Asked, auditor: Auditor) -> list[Part]:
+    """The few calls of each finding that convict by themselves, where there are such; then they are told, and have
+    folders."""
+    said = judged.said
     if not isinstance(said, Judgement) or said.sort in (Sort.EXPLAINED, Sort.NOTHING_JUDGED):
         return []
-    if judged.files.declaration is None:
-        apart = convicting(folder, said, auditor, asked.budget)
-        calls = apart.calls if apart else []
-    else:
-        apart, calls = None, decide(folder, auditor, asked.budget).part
-    if not calls:
-        return []
-    print("\n".join(convicted(folder, calls)), flush=True)
-    return [apart.found.looked_at(asking) if apart else judge(str(folder / PART), asking)]
+    of_findings = convicting if judged.files.declaration is None else shrunk_parts
+    parts = of_findings(asked.folder, said, auditor, asked.budget)
+    if parts:
+        print("\n".join(convicted(parts)), flush=True)
+    return parts
 
 
 def _report(recordings: Callable[[], list[Judged]], asked: Asked) -> None:
@@ -92,12 +88,17 @@ def run_segments(folder: str, budget: int, auditor: Auditor) -> int:
     return status
 
 
-def _blinded(folder: Path, shown: Path) -> str:
-    """Makes the copy of what is to be looked at, and answers the line that tells of it."""
+def _blinded(folder: Path, shown: list[Path]) -> str:
+    """Makes the copy of what is to be looked at, the folder or its parts, and answers the line that tells of it."""
     copy = folder / BLINDED
-    names = [name for name in (TRANSCRIPT, DECLARATION, WITNESS) if (shown / name).exists()]
     copy.mkdir(mode=0o700)
-    told = blind([str(shown / name) for name in names], [str(copy / name) for name in names])
+    files: list[tuple[str, str]] = []
+    for each in shown:
+        target = copy / each.relative_to(folder)
+        target.mkdir(mode=0o700, exist_ok=True)
+        files += [(str(each / name), str(target / name)) for name in (TRANSCRIPT, DECLARATION, WITNESS)
+                  if (each / name).exists()]
+    told = blind([source for source, _ in files], [target for _, target in files])
     return f"{told}; {copy} has it"
 
 

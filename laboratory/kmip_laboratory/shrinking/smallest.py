@@ -77,12 +77,14 @@ def _first(cuts: Sequence[list[Call]], holds: Callable[[list[Call]], bool]) -> l
 
 def _ends_by_stamp(calls: list[Call]) -> list[list[Call]]:
     """The calls up to each Time Stamp. An open call is among them where it began before all of them had ended."""
-    cuts = []
-    for stamp in sorted({call.stamp for call in calls if call.stamp is not None}):
-        ends = [call.end for call in calls if call.end is not None and _is_up_to(call, stamp)]
-        cuts.append([call for call in calls
-                     if (call.begin < max(ends) if call.end is None else _is_up_to(call, stamp))])
+    cuts = [up_to(calls, stamp) for stamp in sorted({call.stamp for call in calls if call.stamp is not None})]
     return [cut for cut in cuts if len(cut) < len(calls)] + [calls]
+
+
+def up_to(calls: list[Call], stamp: int) -> list[Call]:
+    """The calls up to a Time Stamp that one of them has."""
+    ends = [call.end for call in calls if call.end is not None and _is_up_to(call, stamp)]
+    return [call for call in calls if (call.begin < max(ends) if call.end is None else _is_up_to(call, stamp))]
 
 
 def _is_up_to(call: Call, stamp: int) -> bool:

@@ -65,6 +65,10 @@ class Trials:
         """Whether the search decides that no order explains these calls."""
         return self.answer(list(calls))[0] is Answer.IMPOSSIBLE
 
+    def judges(self, calls: list[Call]) -> bool:
+        """Whether a search judges all of these calls."""
+        return self._searched(calls).outcome in (Outcome.YES, Outcome.GAVE_UP)
+
     def answer(self, calls: list[Call]) -> tuple[Answer, Verdict]:
         """What a search says of these calls, and its line."""
         chosen = frozenset(call.number for call in calls)
