@@ -3,6 +3,7 @@
 from __future__ import annotations
 
 import os
+import re
 import shutil
 import subprocess
 import threading
@@ -16,6 +17,8 @@ from .verdicts import Account, Outcome, Verdict, read_account, read_explained, r
 BUILT = Path(__file__).resolve().parents[2] / "crates/kmip_audit/out/kmip_audit"
 VARIABLE = "KMIP_AUDIT"
 UNDECIDED, USAGE = 4, 64
+# What a segment leaves, behind its yes.
+LEFT = re.compile(r"^left: \d+ entries, last stamp (\S+)$", re.MULTILINE)
 Reader = Callable[[str, int], Optional[Verdict]]
 
 
@@ -86,10 +89,19 @@ class Auditor:
         except subprocess.TimeoutExpired:
             return []
 
-    def chain(self, folder: str, budget: int) -> tuple[str, int]:
-        """What a chain prints of a folder of segments, and its status."""
+    def left(self, transcript: str, declaration: str, witness: str, out: str) -> Optional[str]:
+        """The last stamp of a segment that is a yes; the declaration of what it leaves goes into the new file."""
         try:
-            done = self._run("chain", folder, "--budget", str(budget))
+            done = self._run("check", transcript, declaration, witness, "--leaves", out)
+        except subprocess.TimeoutExpired:
+            return None
+        found = LEFT.search(done.stdout)
+        return found[1] if found else None
+
+    def chain(self, folder: str, budget: int, witnesses: str) -> tuple[str, int]:
+        """What a chain prints of a folder of segments, and its status. The other folder gets their witnesses."""
+        try:
+            done = self._run("chain", folder, "--budget", str(budget), "--witnesses", witnesses)
         except subprocess.TimeoutExpired:
             return "\n".join(self._late().lines) + "\n", UNDECIDED
         if done.returncode == USAGE or not done.stdout:

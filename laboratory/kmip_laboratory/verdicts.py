@@ -27,6 +27,7 @@ class Outcome(Enum):
     CONVICTED = "convicted"
     SUSPECTED = "suspected"
     UNDECIDED = "undecided"
+    DIFFERS = "differs"
 
 
 PATTERNS: dict[Outcome, Pattern[str]] = {

@@ -242,14 +242,6 @@ class Audit(InFolder):
         lines = self.audited(said, "--empty", status=2)
         self.assertTrue(any(line.startswith("malformed: transcript offset ") for line in lines), lines)
 
-    def test_segments_are_a_chain(self) -> None:
-        """A folder of segments is judged as `kmip_audit chain` does, and takes no word of a single recording."""
-        lines = self.audited(EXAMPLES / "chain")
-        self.assertTrue(lines[-1].startswith("chain: 2 segments, "))
-        done = run("audit", EXAMPLES / "chain", "--empty", cwd=self.folder)
-        self.assertEqual(done.returncode, 64)
-        self.assertIn("leave --empty away", done.stderr)
-
     def write(self, request: bytes, response: Optional[bytes]) -> Path:
         """A transcript of one call."""
         return self.transcript((request, response))

@@ -18,6 +18,7 @@ from .ending import convicted, note
 from .finding import Found, files_in, find
 from .gather import Source, gather
 from .part import Part
+from .segments import audit_segments
 from .shrink import shrunk_parts
 
 REPORT, JUNIT = "report.html", "junit.xml"
@@ -81,10 +82,12 @@ def _report(recordings: Callable[[], list[Judged]], asked: Asked) -> None:
         say(f"no page was made of it: {trouble}")
 
 
-def run_segments(folder: str, budget: int, auditor: Auditor) -> int:
-    """The segments of a folder, judged one behind the other, as `kmip_audit chain` prints it."""
-    printed, status = auditor.chain(folder, budget)
-    print(printed, end="", flush=True)
+def run_segments(folder: str, asked: Asked, auditor: Auditor) -> int:
+    """The segments of a folder, judged one behind the other, with a page of the last ones where there are any."""
+    asking = Asking(asked.budget, program=auditor.program)
+    shown, status = audit_segments(folder, asked.folder, asking, asked.budget)
+    if shown:
+        _report(lambda: shown, asked)
     return status
 
 

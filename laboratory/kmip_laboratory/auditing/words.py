@@ -4,14 +4,14 @@ from __future__ import annotations
 
 import argparse
 from pathlib import Path
-from typing import TYPE_CHECKING
+from typing import TYPE_CHECKING, Optional
 
 from ..auditor import Auditor
 from ..files import see_that_free
 from ..outputs import see_apart
 from ..recording import rules
 from ..trouble import Trouble, WrongWords
-from .gather import Source, source
+from .gather import source
 from .run import Asked, has_segments, run, run_segments
 
 if TYPE_CHECKING:
@@ -56,23 +56,29 @@ def _audit(words: argparse.Namespace) -> int:
         raise WrongWords("--rules are those of a server that held nothing, with --empty: a declaration has its own")
     said = rules.together(words.rules, rules.Rules(False, [], [], 0))
     found = source(words.recording, words.declaration, words.empty, said)
-    folder = Path(words.out or words.recording.rstrip("/").removesuffix(".ttlv") + ENDING)
-    _see_new(folder, found, words.rules)
+    folder = _new_folder(words)
+    _see_new(folder, [found.transcript, found.declaration, *words.rules])
     return run(found, Asked(folder, words.budget, words.text, words.blind), auditor)
 
 
 def _audit_segments(words: argparse.Namespace, auditor: Auditor) -> int:
-    """Segments have their declaration and their page elsewhere."""
-    named = [name for name in ("declaration", "empty", "rules", "out", "blind", "text") if getattr(words, name)]
+    """Segments have their declaration in their folder, and are blinded one by one."""
+    named = [name for name in ("declaration", "empty", "rules", "blind") if getattr(words, name)]
     if named:
         raise WrongWords(f"{words.recording} is a folder of segments, which `kmip_audit chain` judges by the "
                          f"declaration in it: leave --{named[0]} away")
-    return run_segments(words.recording, words.budget, auditor)
+    folder = _new_folder(words)
+    _see_new(folder, [words.recording])
+    return run_segments(words.recording, Asked(folder, words.budget, words.text), auditor)
 
 
-def _see_new(folder: Path, found: Source, read: list[str]) -> None:
+def _new_folder(words: argparse.Namespace) -> Path:
+    return Path(words.out or words.recording.rstrip("/").removesuffix(".ttlv") + ENDING)
+
+
+def _see_new(folder: Path, read: list[Optional[str]]) -> None:
     """Refuses a folder that is there, or that is one of the files which are read."""
-    see_apart([str(folder)], [found.transcript, found.declaration, *read])
+    see_apart([str(folder)], read)
     try:
         see_that_free(str(folder))
     except Trouble as trouble:

@@ -88,7 +88,7 @@ class Judged(NamedTuple):
         """Whether the auditor says no: to the order that is given, where no search finds another, or to all of them."""
         if self.verdict.outcome is Outcome.NO:
             return self.searched is None or self.searched.outcome is not Outcome.YES
-        return bool(self.verdict.decided) or self.verdict.outcome is Outcome.CONVICTED
+        return bool(self.verdict.decided) or self.verdict.outcome in (Outcome.CONVICTED, Outcome.DIFFERS)
 
     @property
     def is_explained(self) -> bool:
@@ -214,6 +214,12 @@ def _judge_undeclared(folder: str, asking: Asking) -> Judged:
         auditor = Auditor(asking.program, asking.seconds)
         found = auditor.judge(transcript, None, str(files.witness), str(files.used), asking.budget or USUAL_BUDGET)
         return judged_of(folder, found, files, asking)._replace(seconds=time.monotonic() - started)
+
+
+def unread(path: str, verdict: Verdict, words: list[str], asking: Asking) -> Judged:
+    """A file of which the auditor said this, at these words, and of whose calls nothing is shown."""
+    account = Account(Auditor(asking.program, asking.seconds).version(), ())
+    return Judged(path, verdict, words, account, [_digest(path)], Read([], {}, Messages([], {})), 0.0)
 
 
 def judged_of(folder: str, judgement: Union[Judgement, Verdict], files: Files, asking: Asking) -> Judged:

@@ -18,7 +18,7 @@ COUNTS = {"judged": "items judged", "all": "items recorded", "request": "items s
           "object": "items set aside by object"}
 RIGHT = (Outcome.YES, Outcome.EXPLAINED)
 WRONG = (Outcome.NO, Outcome.GAVE_UP, Outcome.BUT_FOR, Outcome.NOTHING_JUDGED, Outcome.CONVICTED, Outcome.SUSPECTED,
-         Outcome.UNDECIDED)
+         Outcome.UNDECIDED, Outcome.DIFFERS)
 
 
 def told(recordings: list[Judged]) -> str:

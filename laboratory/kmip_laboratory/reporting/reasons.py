@@ -40,6 +40,7 @@ MEANING: dict[Outcome, str] = {
     Outcome.CONVICTED: "Convicted: no order of the calls explains every answer.",
     Outcome.SUSPECTED: "Suspected: these answers are impossible in the orders that were tried. Calls overlap, so "
                        "another order may explain them.",
+    Outcome.DIFFERS: "Another inventory: the server tells something else of its objects than its answers left.",
     Outcome.UNDECIDED: "Undecided: the steps or the seconds were used up. What was found by then is not confirmed.",
 }
 PREMISES = (
