@@ -38,7 +38,7 @@ module _ (h : DeclarationHeader) (refused : h.settings.unjudged ≡ Refused) (se
   header_less : (item : Tree) → IsHeader Aside item h → IsHeader Judged item h
   header_less item i = record { is = i.is; may = i.may; reached = (λ same. let clash : Refused ≡ Unknown = sym refused ∙ same in absurd cc, seen) }
 
-within_less : (bytes : List ℕ) (declared : DeclarationOf) → declared.settings.unjudged ≡ Refused → declared.settings.visibility ≡ Everyone → IsDeclarationWithin Aside bytes declared
+pub within_less : (bytes : List ℕ) (declared : DeclarationOf) → declared.settings.unjudged ≡ Refused → declared.settings.visibility ≡ Everyone → IsDeclarationWithin Aside bytes declared
     → IsDeclarationWithin Judged bytes declared
 within_less bytes declared refused seen w =
     let s = w.say in

@@ -75,7 +75,7 @@ verdict_printed Prints (Ok l) v said lines reported (inl p) =
 verdict_printed Prints (Err e) v said lines reported (inl p) = absurd p
 
 -- status 0 is that of a yes by which nothing is set aside by the witness alone
-done_alone : (k : TallyOf) → yes_status k ≡ status.Done → k.excepted ≡ 0
+pub done_alone : (k : TallyOf) → yes_status k ≡ status.Done → k.excepted ≡ 0
 done_alone k done = by (k.excepted == 0) refl done
   where
     by : (t : Bool) → k.excepted == 0 ≡ t → (if t then status.Done else status.No) ≡ status.Done → k.excepted ≡ 0

@@ -9,5 +9,6 @@ mod owners;
 mod running;
 mod way;
 
-pub use lines::{judged_line, stamp_line};
+pub use lines::{judged_line, sighted_lines, stamp_line, verdict_lines};
 pub use running::check_any_run;
+pub use way::{Way, way_of};

@@ -13,7 +13,7 @@ use kmipa_trail::{Tally, Verdict};
 use std::alloc::{AllocError, Global};
 
 /// The lines of a verdict, and the status that goes with them.
-pub(crate) fn verdict_lines(alloc: Global, verdict: &Verdict) -> Result<Lines, AllocError>
+pub fn verdict_lines(alloc: Global, verdict: &Verdict) -> Result<Lines, AllocError>
     ensures { IfOk result (λ lines. PrintsVerdict verdict.now lines.status (string_bytes lines.text)) }
 {
     match verdict {
@@ -37,7 +37,7 @@ pub(crate) fn verdict_lines(alloc: Global, verdict: &Verdict) -> Result<Lines, A
 }
 
 /// The same where what isn't judged ends the audit: without the line of how many items were judged.
-pub(crate) fn sighted_lines(alloc: Global, verdict: &Verdict) -> Result<Lines, AllocError>
+pub fn sighted_lines(alloc: Global, verdict: &Verdict) -> Result<Lines, AllocError>
     ensures { IfOk result (λ lines. PrintsInSight verdict.now lines.status (string_bytes lines.text)) }
 {
     match verdict {

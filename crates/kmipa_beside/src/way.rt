@@ -7,7 +7,7 @@ use kmipa_record::Settings;
 
 /// How the calls of a recording are judged by a declaration.
 #[derive(Clone, Copy)]
-pub(crate) enum Way {
+pub enum Way {
     /// Nothing is set aside, and clients see every object.
     AsEver,
     /// Nothing is set aside, and a server may hide the objects of other clients, or has to.
@@ -17,7 +17,7 @@ pub(crate) enum Way {
 }
 
 /// The way that these settings ask for.
-pub(crate) fn way_of(settings: &Settings) -> Way
+pub fn way_of(settings: &Settings) -> Way
     ensures { IsWay settings.now result }
 {
     match (settings.unjudged, settings.visibility) {
