@@ -1,7 +1,5 @@
 -- What is told in JSON of a check that says what its no means.
-use Rattle.std.proofs.Common.{◌≡◌, ◌⊎◌, inl, inr, Bool, List, ℕ, Option, Result, Ok, Err, refl, sym, subst, ◌∙◌}
-use Rattle.std.specs.Prelude.{IfOk, IsOkAnd, string_bytes}
-use Rattle.std.specs.declared.alloc.AllocError.{AllocError}
+use Rattle.std.proofs.Common.{◌≡◌, ◌⊎◌, inl, inr, List, ℕ, Option, Result, Ok, Err, refl, sym, ◌∙◌}
 use Rattle.kmipa_ttlv.specs.Input.{came_of}
 use Rattle.kmipa_ttlv.specs.declared.input.Input.{Input}
 use Rattle.kmipa_ttlv.proofs.ReadLemmas.{itself}
@@ -9,13 +7,12 @@ use Rattle.kmipa_record.specs.Marks.{MarkOf}
 use Rattle.kmipa_record.specs.Declarations.{DeclarationOf, declaration_of}
 use Rattle.kmipa_record.specs.Transcripts.{transcript_of}
 use Rattle.kmipa_record.specs.Witnesses.{TurnOf, witness_of}
-use Rattle.kmipa_check.specs.Audits.{AreAccepted, ReadingFails}
+use Rattle.kmipa_check.specs.Audits.{AreAccepted}
 use Rattle.kmipa_check.specs.declared.auditing.AuditFault.{AuditFault}
 use Rattle.kmipa_check.specs.declared.auditing.AuditFault.TheVariants as audit
 use Rattle.kmipa_check.specs.declared.verdict.Verdict.{Verdict}
 use Rattle.kmipa_check.specs.declared.verdict.Verdict.TheVariants as verdict
 use Rattle.kmipa_jobs.specs.Statuses.{IsSilent}
-use Rattle.kmipa_runs.specs.declared.lines.Lines.{Lines}
 use Rattle.kmipa_jobs.specs.declared.status.Status.{Status}
 use Rattle.kmipa_jobs.specs.declared.status.Status.TheVariants as status
 use Rattle.kmipa_telling.specs.ExplainedJson.{ExplainsInputs, PrintsExplainedJson}
@@ -36,14 +33,6 @@ where_ended (Err (audit.Transcript f)) fact holds = tt
 where_ended (Err (audit.Declaration f)) fact holds = tt
 where_ended (Err (audit.Witness f)) fact holds = tt
 where_ended (Err (audit.Check f)) fact holds = holds
-
--- a fault of reading is none of the check
-pub where_unread : (fact : Type 0) (t d w : List ℕ) (ft fd fw : Bool) (fault : AuditFault) → ReadingFails t d w ft fd fw fault
-    → WhereRead {T = Explained} (Err fault) fact
-where_unread fact t d w ft fd fw (audit.Transcript f) told = tt
-where_unread fact t d w ft fd fw (audit.Declaration f) told = tt
-where_unread fact t d w ft fd fw (audit.Witness f) told = tt
-where_unread fact t d w ft fd fw (audit.Check f) told = absurd told
 
 -- ---- status 0
 
@@ -70,20 +59,3 @@ pub done_is_explained : {R : Type 0} (torn : Option ℕ) (t d w : Input R) (said
     → said ≡ status.Done → AreAccepted (came_of t) (came_of d) (came_of w) × AreEnded t d w
 done_is_explained torn t d w said lines (inl told) done = explained_done torn t d w told.0 said lines told.1 told.2 done
 done_is_explained torn t d w said lines (inr silent) done = absurd (silent_not_done said lines silent done)
-
--- ---- what is appended
-
-pub explained_printed : {R : Type 0} (torn : Option ℕ) (made : Result Lines AllocError) (t d w : Input R) (outcome : Result Explained FaultTold) (said : Status) (lines : List ℕ)
-    → IfOk made (λ l. PrintsExplainedJson torn t d w outcome l.status (string_bytes l.text))
-    → IsOkAnd made (λ l. (said ≡ l.status) × (lines ≡ string_bytes l.text)) ⊎ IsSilent said lines → PrintsExplainedJson torn t d w outcome said lines ⊎ IsSilent said lines
-explained_printed torn made t d w outcome said lines told (inr silent) = inr silent
-explained_printed torn (Err e) t d w outcome said lines told (inl p) = absurd p
-explained_printed torn (Ok l) t d w outcome said lines told (inl p) =
-    let P : Status → Type 0 = λ s. PrintsExplainedJson torn t d w outcome s (string_bytes l.text) in
-    let Q : List ℕ → Type 0 = λ text. PrintsExplainedJson torn t d w outcome said text in
-    inl (subst Q (sym p.1) (subst P (sym p.0) told))
-
-pub printed_explained : {R : Type 0} (torn : Option ℕ) (t d w : Input R) (outcome : Result Explained FaultTold) (said : Status) (lines : List ℕ) → ExplainsInputs t d w outcome
-    → PrintsExplainedJson torn t d w outcome said lines ⊎ IsSilent said lines → ToldCheck torn t d w said lines ⊎ IsSilent said lines
-printed_explained torn t d w outcome said lines audits (inl prints) = inl (outcome, audits, prints)
-printed_explained torn t d w outcome said lines audits (inr silent) = inr silent

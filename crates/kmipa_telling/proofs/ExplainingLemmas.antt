@@ -1,14 +1,13 @@
 -- Of a check that says what its no means.
-use Rattle.std.proofs.Common.{◌≡◌, ◌⊎◌, ◌↔◌, inl, inr, ℕ, Bool, List, [], ◌++◌, codes, Option, Some, None, Result, Ok, Err, length, take, refl, sym, ap, subst, ◌∙◌}
+use Rattle.std.proofs.Common.{◌≡◌, ◌⊎◌, inl, inr, ℕ, Bool, List, [], ◌++◌, codes, Option, Some, None, Result, Ok, Err, length, take, refl, sym, ap, subst, ◌∙◌}
 use Rattle.std.specs.Prelude.{IfOk, IsOkAnd, string_bytes}
-use Rattle.std.specs.Io.{StartsWith}
 use Rattle.std.specs.declared.alloc.AllocError.{AllocError}
 use Rattle.kmipa_record.specs.Marks.{MarkOf}
 use Rattle.kmipa_record.specs.Declarations.{DeclarationOf, declaration_of}
 use Rattle.kmipa_record.specs.Transcripts.{transcript_of}
 use Rattle.kmipa_record.specs.Witnesses.{TurnOf, witness_of}
 use Rattle.std.proofs.lemmas.List.{append-nil}
-use Rattle.kmipa_check.specs.Audits.{AreAccepted, AreRecords, AreUnjudged, AuditFails, ReadingFails}
+use Rattle.kmipa_check.specs.Audits.{AreAccepted, AreRecords, AreUnjudged, AuditFails}
 use Rattle.kmipa_check.specs.Grants.{GrantsOf, grants_declared}
 use Rattle.kmipa_check.specs.Verdicts.{Checks}
 use Rattle.kmipa_check.specs.declared.auditing.AuditFault.TheVariants as audit
@@ -165,18 +164,6 @@ pub fault_of : (marks : List MarkOf) (declared : DeclarationOf) (turns : List Tu
 fault_of marks declared turns (check.Outside number side o) h = h
 fault_of marks declared turns (check.Witness w) h = h
 fault_of marks declared turns check.Memory h = tt
-
--- a fault of reading is told alone
-pub bare_reading : (t d w : List ℕ) (ft fd fw : Bool) (fault : AuditFault) → ReadingFails t d w ft fd fw fault → AuditsExplained t d w ft fd fw (Err (bare_fault fault))
-bare_reading t d w ft fd fw (audit.Transcript f) h = (h, tt)
-bare_reading t d w ft fd fw (audit.Declaration f) h = (h, tt)
-bare_reading t d w ft fd fw (audit.Witness f) h = (h, tt)
-bare_reading t d w ft fd fw (audit.Check f) h = absurd h
-
--- a fault is told with another status than 0
-pub told_not_done : (told : FaultTold) (said : Status) (lines : List ℕ) → PrintsExplained (Err told) said lines ⊎ IsSilent said lines → said ≡ status.Done → ⊥
-told_not_done told said lines (inl (front, more, prints, tells, e)) done = fault_not_done told.fault (sym prints.0 ∙ done)
-told_not_done told said lines (inr silent) done = let clash : status.Failed ≡ status.Done = sym silent.0 ∙ done in absurd cc
 
 -- a fault of a message, and what it means, is told so of a check
 pub message_fault : (g : GrantsOf) (marks : List MarkOf) (turns : List TurnOf) (fault : CheckFault) → ((w : WitnessFault) → fault ≡ check.Witness w → ⊥) → IsCheckFaultOf g marks turns fault → IsFaultOf marks fault

@@ -1,7 +1,5 @@
 -- What is told in JSON of accepted files.
-use Rattle.std.proofs.Common.{◌≡◌, ◌⊎◌, inl, inr, List, ℕ, Option, Result, Ok, Err, refl, sym, subst, ◌∙◌}
-use Rattle.std.specs.Prelude.{IfOk, IsOkAnd, string_bytes}
-use Rattle.std.specs.declared.alloc.AllocError.{AllocError}
+use Rattle.std.proofs.Common.{◌≡◌, ◌⊎◌, inl, inr, List, ℕ, Option, Result, Ok, Err, refl, sym, ◌∙◌}
 use Rattle.kmipa_ttlv.specs.Input.{came_of}
 use Rattle.kmipa_ttlv.specs.declared.input.Input.{Input}
 use Rattle.kmipa_ttlv.proofs.ReadLemmas.{itself}
@@ -20,7 +18,6 @@ use Rattle.kmipa_check.specs.declared.verdict.Verdict.TheVariants as verdict
 use Rattle.kmipa_check.proofs.AuditLemmas.{yes_accepted}
 use Rattle.kmipa_runs.specs.Lines.{fault_status, record_status}
 use Rattle.kmipa_jobs.specs.Statuses.{IsSilent}
-use Rattle.kmipa_runs.specs.declared.lines.Lines.{Lines}
 use Rattle.kmipa_jobs.specs.declared.status.Status.{Status}
 use Rattle.kmipa_jobs.specs.declared.status.Status.TheVariants as status
 use Rattle.kmipa_telling.specs.Judging.{AreEnded, AuditsInputs}
@@ -92,20 +89,3 @@ pub done_is_judged : {R : Type 0} (torn : Option ℕ) (t d w : Input R) (said : 
     → AreAccepted (came_of t) (came_of d) (came_of w) × AreEnded t d w
 done_is_judged torn t d w said lines (inl told) done = judged_done torn t d w told.0 said lines told.1 told.2 done
 done_is_judged torn t d w said lines (inr silent) done = absurd (silent_not_done said lines silent done)
-
--- ---- what is appended
-
-pub json_reported : {R : Type 0} (torn : Option ℕ) (made : Result Lines AllocError) (t d w : Input R) (outcome : Result Audited AuditFault) (said : Status) (lines : List ℕ)
-    → IfOk made (λ l. PrintsJson torn t d w outcome l.status (string_bytes l.text))
-    → IsOkAnd made (λ l. (said ≡ l.status) × (lines ≡ string_bytes l.text)) ⊎ IsSilent said lines → PrintsJson torn t d w outcome said lines ⊎ IsSilent said lines
-json_reported torn made t d w outcome said lines told (inr silent) = inr silent
-json_reported torn (Err e) t d w outcome said lines told (inl p) = absurd p
-json_reported torn (Ok l) t d w outcome said lines told (inl p) =
-    let P : Status → Type 0 = λ s. PrintsJson torn t d w outcome s (string_bytes l.text) in
-    let Q : List ℕ → Type 0 = λ text. PrintsJson torn t d w outcome said text in
-    inl (subst Q (sym p.1) (subst P (sym p.0) told))
-
-pub printed_check : {R : Type 0} (torn : Option ℕ) (t d w : Input R) (outcome : Result Audited AuditFault) (said : Status) (lines : List ℕ) → AuditsInputs t d w outcome
-    → PrintsJson torn t d w outcome said lines ⊎ IsSilent said lines → ToldAudit torn t d w said lines ⊎ IsSilent said lines
-printed_check torn t d w outcome said lines audits (inl prints) = inl (outcome, audits, prints)
-printed_check torn t d w outcome said lines audits (inr silent) = inr silent

@@ -1,86 +1,28 @@
 //! What a check tells in JSON.
 
-ghost use Rattle.std.specs.Prelude.{◌≡◌, ◌⊎◌, [], take, IfOk, Result, string_bytes};
-ghost use Rattle.std.specs.Io.{StartsWith, appended_bytes};
+ghost use Rattle.std.specs.Prelude.{◌≡◌, take, IfOk, string_bytes};
 ghost use Rattle.kmipa_ttlv.specs.Input.{came_of};
 ghost use Rattle.kmipa_json.specs.Told.{items_of, members_of};
-ghost use Rattle.kmipa_check.specs.Audits.{AreAccepted};
-ghost use Rattle.kmipa_runs.specs.Knowing.{KnowsSeals};
-ghost use Rattle.kmipa_jobs.specs.Statuses.{IsSilent};
 ghost use Rattle.kmipa_telling.specs.Held.{HoldsAll};
-ghost use Rattle.kmipa_telling.specs.Judging.{AreEnded, AuditsInputs};
 ghost use Rattle.kmipa_telling.specs.Seals.{KnowsJudged};
 ghost use Rattle.kmipa_telling.specs.Telling.{PrintsJson, TellsOutcome, audit_head, check_files, input_members, opened, own_bytes, read_members, transcript_members};
 
-use crate::held::{Held, ReadFiles};
-use crate::judging::audit_held;
+use crate::held::ReadFiles;
 use crate::seals::tell_seal;
 use crate::telling::{tell_fault, tell_verdict};
 use kmipa_check::{AuditFault, Audited};
 use kmipa_jobs::Status;
 use kmipa_json::{JsonList, JsonObject, told_file};
 use kmipa_record::Head;
-use kmipa_runs::{Answered, Lines, append};
+use kmipa_runs::Lines;
 use kmipa_ttlv::Input;
 use std::alloc::{AllocError, Global};
-use std::io::Read;
 
 /// The version of the auditor.
 pub const VERSION: &str = "0.1.0";
 
-/// `check TRANSCRIPT DECLARATION WITNESS --json`: appends one JSON object and a line feed, which tell the verdict, or the fault that
-/// stands in its place, and answers the status. Behind a verdict on a sealed transcript they tell its head, which is answered too. Of a transcript
-/// that is `torn` so many bytes are its own, and behind them stands a close that was put there: of that nothing is told. Where memory
-/// runs out nothing is appended, and the status is `Failed`.
-pub fn check_json<R: Read>(
-    alloc: Global,
-    torn: Option<u64>,
-    transcript: &mut Input<R>,
-    declaration: &mut Input<R>,
-    witness: &mut Input<R>,
-    out: &mut Vec<u8>,
-) -> Answered
-    requires transcript { came_of transcript.old ≡ [] }
-    requires declaration { came_of declaration.old ≡ [] }
-    requires witness { came_of witness.old ≡ [] }
-    // What is printed tells what an audit answers of whatever the inputs may be, or memory ran out.
-    ensures prints { ((outcome : Result Audited AuditFault)
-        × AuditsInputs transcript.new declaration.new witness.new outcome
-        × PrintsJson torn transcript.new declaration.new witness.new outcome result.status
-        (appended_bytes out.old.items out.new.items))
-        ⊎ IsSilent result.status (appended_bytes out.old.items out.new.items) }
-    // Status 0 is answered only where the bytes that came, to the ends that were seen, are accepted.
-    ensures accepts { result.status ≡ Status.Done
-        → AreAccepted (came_of transcript.new) (came_of declaration.new) (came_of witness.new)
-        × AreEnded transcript.new declaration.new witness.new }
-    // With a verdict the head is answered up to which all seals of the bytes that came are right, or none of bytes without seals.
-    ensures known { KnowsSeals (came_of transcript.new) result.status result.head }
-    ensures appends { StartsWith out.new.items out.old.items }
-{
-    let mut held = Held::new(alloc);
-    match audit_held(alloc, transcript, declaration, witness, &mut held) {
-        Ok(outcome) => {
-            let files = ReadFiles {
-                transcript,
-                declaration,
-                witness,
-                held: &held,
-            };
-            let lines = lines_of(alloc, torn, &files, &outcome);
-            Answered {
-                status: append(lines, out),
-                head: audit_head(outcome),
-            }
-        }
-        Err(error) => Answered {
-            status: append(Err(error), out),
-            head: None,
-        },
-    }
-}
-
 /// The head of the transcript that was audited, if it is sealed.
-fn audit_head(outcome: Result<Audited, AuditFault>) -> Option<Head>
+pub fn audit_head(outcome: Result<Audited, AuditFault>) -> Option<Head>
     ensures { result ≡ audit_head outcome }
 {
     match outcome {
@@ -90,7 +32,7 @@ fn audit_head(outcome: Result<Audited, AuditFault>) -> Option<Head>
 }
 
 /// The object of an audit of files whose bytes are held, with this outcome, on a line.
-fn lines_of<R>(
+pub fn audited_object<R>(
     alloc: Global,
     torn: Option<u64>,
     files: &ReadFiles<R>,

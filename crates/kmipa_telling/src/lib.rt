@@ -18,7 +18,6 @@ mod failing_claims;
 mod faults;
 mod held;
 mod json;
-mod judging;
 mod listing_causes;
 mod listing_claims;
 mod making_causes;
@@ -43,12 +42,15 @@ mod unfit_lines;
 mod unfit_phrases;
 
 pub use claims::{calls_list, tell_meaning};
-pub use explained::Explained;
-pub use explained_json::explain_json;
-pub use explaining::{explain_run, explanation_lines};
-pub use faults::{fault_told, fault_told_lines, tell_fault_told};
-pub use json::{VERSION, check_json, open_object, read_object, transcript_object};
+pub use explained::{Explained, explain_records};
+pub use explained_json::{explained_head, explained_object};
+pub use explaining::{explained_lines, explanation_lines};
+pub use faults::{check_fault_told, fault_told, fault_told_lines, tell_fault_told};
+pub use held::{Held, ReadFiles};
+pub use json::{
+    VERSION, audit_head, audited_object, open_files, open_object, read_object, transcript_object,
+};
 pub use meaning::{FaultMeaning, FaultTold};
 pub use phrases::{MOST, calls_text, more_line};
 pub use reading::read_held;
-pub use telling::{named, tell_tally};
+pub use telling::{named, tell_date, tell_refused, tell_tally};

@@ -81,7 +81,12 @@ fn aside_object(alloc: Global, tally: Tally) -> Result<JsonObject, AllocError>
     Ok(told)
 }
 
-fn tell_refused(alloc: Global, told: &mut JsonObject, refused: &Refused) -> Result<(), AllocError>
+/// The turn, the call and the item of a no, and the reason.
+pub fn tell_refused(
+    alloc: Global,
+    told: &mut JsonObject,
+    refused: &Refused,
+) -> Result<(), AllocError>
     ensures { OnOk result (members_of told.new ≡ refused_members refused.now (members_of told.old)) }
 {
     told.put_text("verdict", "no")?;
