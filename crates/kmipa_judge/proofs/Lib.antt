@@ -1,3 +1,4 @@
+mod CheckLemmas
 mod ClientLemmas
 mod FormLemmas
 mod HeldLemmas

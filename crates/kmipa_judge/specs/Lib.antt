@@ -14,3 +14,4 @@ pub mod Reading
 pub mod Runs
 pub mod Statuses
 pub mod Searches
+pub mod Checks

@@ -63,6 +63,10 @@ pub record ExplainsTurns (marks : List MarkOf) (declared : DeclarationOf) (witne
 abbrev pub ExplainsFinding : List MarkOf → DeclarationOf → List TurnOf → FindingOf → Explanation → Type 0
 ExplainsFinding marks declared turns f e = ExplainsTurns marks declared turns (with_tried turns f) f.refused e
 
+-- and a no of a check with the witness as it is
+abbrev pub ExplainsNo : List MarkOf → DeclarationOf → List TurnOf → Refused → Explanation → Type 0
+ExplainsNo marks declared turns r e = ExplainsTurns marks declared turns turns r e
+
 -- of what is undecided no finding is explained
 abbrev pub IsMeaning : List MarkOf → DeclarationOf → Outcome → FindingOf → Explanation → Type 0
 IsMeaning marks declared (outcome.Judged j) f e = ExplainsFinding marks declared (witness_of j.witness) f e

@@ -181,7 +181,7 @@ fn sum(a: u128, b: u128) -> Result<u128, AllocError>
 }
 
 /// A count as a number that an object can have.
-fn told_count(count: u128) -> Result<u64, AllocError>
+pub(crate) fn told_count(count: u128) -> Result<u64, AllocError>
     ensures { IfOk result (λ told. told ≡ count) }
 {
     if count <= u64::MAX as u128 {

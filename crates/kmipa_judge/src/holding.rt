@@ -5,6 +5,7 @@ ghost use Rattle.kmipa_ttlv.specs.Input.{came_of, is_ended, is_failed, IsFileOf}
 ghost use Rattle.kmipa_record.specs.Declarations.{DeclarationFaultWithin, IsDeclarationUpToWithin};
 ghost use Rattle.kmipa_record.specs.Files.{Tells};
 ghost use Rattle.kmipa_record.specs.Transcripts.{TranscriptFault, IsTranscriptUpTo};
+ghost use Rattle.kmipa_record.specs.Witnesses.{IsWitness, IsWitnessUpTo, WitnessFault, witness_of};
 ghost use Rattle.kmipa_record.specs.declared.reach.Reach.TheVariants.{Aside};
 ghost use Rattle.kmipa_judge.specs.Forms.{IsHeld};
 ghost use Rattle.kmipa_judge.specs.Reading.{IsGiven, IsRecording};
@@ -12,8 +13,8 @@ ghost use Rattle.kmipa_telling.specs.Judging.{ReadsBytes};
 
 use crate::form::JudgeForm;
 use kmipa_record::{
-    Declaration, Reach, RecordFault, RecordKind, Transcript, read_declaration_within,
-    read_transcript,
+    Declaration, Reach, RecordFault, RecordKind, Transcript, Witness, read_declaration_within,
+    read_transcript, read_witness,
 };
 use kmipa_telling::read_held;
 use kmipa_ttlv::{FaultKind, Input, read_all};
@@ -78,7 +79,31 @@ pub(crate) fn read_given<R: Read>(
     }
 }
 
-/// The same, holding what came. It is read to its end, save where a fault stands in its first 1,048,576 bytes.
+/// Reads a witness of which nothing was read.
+pub(crate) fn read_turns<R: Read>(
+    alloc: Global,
+    form: JudgeForm,
+    input: &mut Input<R>,
+    held: &mut Vec<u8>,
+) -> Result<Result<Witness, RecordFault>, AllocError>
+    requires came { came_of input.old ≡ [] }
+    requires none { held.old.items ≡ [] }
+    ensures found { IfOk result (λ read. IfOk read
+        (λ witness. IsWitness (came_of input.new) (witness_of witness) × IsTrue (is_ended input.new))) }
+    ensures fault { (file : List ℕ) → IsFileOf file input.new
+        → IfOk result (λ read. IfErr read (Tells WitnessFault IsWitnessUpTo file (is_failed input.new))) }
+    ensures held { OnOk result (IsHeld form held.new.items input.new) }
+{
+    match form {
+        JudgeForm::Lines => Ok(read_witness(alloc, input)),
+        JudgeForm::Object(_) => {
+            let read: Result<Witness, RecordFault> = read_held(alloc, input, held)?;
+            Ok(read)
+        }
+    }
+}
+
+/// The same of a declaration, holding what came. It is read to its end, save where a fault stands in its first 1,048,576 bytes.
 fn hold_given<R: Read>(
     alloc: Global,
     input: &mut Input<R>,

@@ -354,7 +354,7 @@ fn tell_behind(
 }
 
 /// What isn't judged along a witness.
-fn tell_along(
+pub(crate) fn tell_along(
     alloc: Global,
     told: &mut JsonObject,
     records: &Records,
@@ -403,7 +403,11 @@ fn lines_behind(alloc: Global, records: &Records, outcome: &Outcome) -> Result<S
 }
 
 /// The lines of what isn't judged along a witness.
-fn lines_along(alloc: Global, records: &Records, witness: &Witness) -> Result<String, Fault>
+pub(crate) fn lines_along(
+    alloc: Global,
+    records: &Records,
+    witness: &Witness,
+) -> Result<String, Fault>
     requires { AreDeclared (declaration_of records.now.declaration) }
     ensures { AreRecorded (transcript_of records.now.transcript) → IfOk result (λ text.
         PrintsAlong (transcript_of records.now.transcript) (declaration_of records.now.declaration)

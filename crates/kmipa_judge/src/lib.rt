@@ -1,9 +1,11 @@
 //! What is found in a recording, told in lines or in an object: `judge_run` and `judge_alone_run` read the files, judge, and make a witness and the
-//! declaration that was used; `search_any_run` looks for a witness, whatever the declaration sets aside.
+//! declaration that was used; `search_any_run` looks for a witness, and `check_told_run` checks one and tells more than its lines, whatever the declaration
+//! sets aside.
 #![tactic(auto)]
 
 mod at_length;
 mod beside;
+mod checking;
 mod clients;
 mod clues;
 mod deciding;
@@ -33,7 +35,8 @@ mod unjudged_lines;
 mod unjudged_object;
 
 pub use beside::Beside;
-pub use form::JudgeForm;
+pub use checking::check_told_run;
+pub use form::{CheckForm, JudgeForm};
 pub use opinion::Opinion;
 pub use rule::Rule;
 pub use run::JudgeRun;
