@@ -12,14 +12,13 @@ use crate::did::Said;
 use crate::ran::Ran;
 use kmipa_beside::check_any_run;
 use kmipa_jobs::SearchWords;
-use kmipa_judge::search_any_run;
+use kmipa_judge::{CheckForm, check_told_run, search_any_run};
 use kmipa_orders::Watch;
 use kmipa_runs::write_run;
 use kmipa_searches::{FoundOutput, JsonSearch, SearchOptions, explain_search_run, search_json};
 use kmipa_segments::{
     CheckOutput, SearchAsked, SearchOutput, SegmentAsked, search_segment_run, segment_run,
 };
-use kmipa_telling::{check_json, explain_json, explain_run};
 use kmipa_ttlv::Input;
 use std::alloc::Global;
 use std::io::Read;
@@ -46,7 +45,7 @@ pub fn check_lines<R: Read>(
     }
 }
 
-/// And what a no means.
+/// And what a no or a fault means.
 pub fn check_explained<R: Read>(
     alloc: Global,
     transcript: &mut Input<R>,
@@ -60,7 +59,8 @@ pub fn check_explained<R: Read>(
     ensures known { KnowsSeals (came_of transcript.new) result.status result.head }
 {
     let mut lines = Vec::new(alloc);
-    let answered = explain_run(alloc, transcript, declaration, witness, &mut lines);
+    let form = CheckForm::Explained;
+    let answered = check_told_run(alloc, form, transcript, declaration, witness, &mut lines);
     Ran {
         status: answered.status,
         lines,
@@ -83,7 +83,8 @@ pub fn check_object<R: Read>(
     ensures known { KnowsSeals (came_of transcript.new) result.status result.head }
 {
     let mut lines = Vec::new(alloc);
-    let answered = check_json(alloc, torn, transcript, declaration, witness, &mut lines);
+    let form = CheckForm::Json(torn);
+    let answered = check_told_run(alloc, form, transcript, declaration, witness, &mut lines);
     Ran {
         status: answered.status,
         lines,
@@ -91,7 +92,7 @@ pub fn check_object<R: Read>(
     }
 }
 
-/// And with it what a no means.
+/// And with it what a no or a fault means.
 pub fn check_explained_object<R: Read>(
     alloc: Global,
     torn: Option<u64>,
@@ -106,7 +107,8 @@ pub fn check_explained_object<R: Read>(
     ensures known { KnowsSeals (came_of transcript.new) result.status result.head }
 {
     let mut lines = Vec::new(alloc);
-    let answered = explain_json(alloc, torn, transcript, declaration, witness, &mut lines);
+    let form = CheckForm::ExplainedJson(torn);
+    let answered = check_told_run(alloc, form, transcript, declaration, witness, &mut lines);
     Ran {
         status: answered.status,
         lines,

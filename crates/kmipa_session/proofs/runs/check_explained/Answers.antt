@@ -5,11 +5,6 @@ use Rattle.kmipa_session.proofs.runs.check_explained.Goals as goal
 
 pub returns-clause-told : goal.returns-clause-told
 returns-clause-told g c =
-    let run = c.explain_run-answered in
+    let run = c.check_told_run-answered in
     let P : List ℕ → Type 0 = λ l. ChecksExplained run.new.transcript run.new.declaration run.new.witness run.result.status l in
-    behind_nothing P c.new-lines.result.items run.new.out.items c.new-lines.ensures.items (record {
-      prints = run.ensures.prints;
-      fits = run.ensures.fits;
-      yes = run.ensures.yes;
-      accepts = run.ensures.accepts;
-    })
+    behind_nothing P c.new-lines.result.items run.new.out.items c.new-lines.ensures.items (record { tells = run.ensures.told; accepts = run.ensures.accepts })

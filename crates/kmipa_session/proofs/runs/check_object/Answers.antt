@@ -5,9 +5,6 @@ use Rattle.kmipa_session.proofs.runs.check_object.Goals as goal
 
 pub returns-clause-told : goal.returns-clause-told
 returns-clause-told g c =
-    let run = c.check_json-answered in
+    let run = c.check_told_run-answered in
     let P : List ℕ → Type 0 = λ l. ChecksInJson c.args.torn run.new.transcript run.new.declaration run.new.witness run.result.status l in
-    behind_nothing P c.new-lines.result.items run.new.out.items c.new-lines.ensures.items (record {
-      prints = run.ensures.prints;
-      accepts = λ done. let r = run.ensures.accepts done in (r.0, r.1.0, r.1.1, r.1.2);
-    })
+    behind_nothing P c.new-lines.result.items run.new.out.items c.new-lines.ensures.items (record { tells = run.ensures.told; accepts = run.ensures.accepts })
