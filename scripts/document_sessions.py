@@ -68,6 +68,7 @@ SESSIONS: List[Session] = [
                              "extendedKeyUsage=critical,timeStamping && openssl ts -reply -config tsa.conf -queryfile heads.tsq "
                              "-signer authority.pem -inkey tsa.key -out heads.tsr"}),
     Session([("docs/EXPLAINING.md", "why 9 BytesDiffer\nat 2023")], three(OTHER_BYTE), status={"kmip_audit": 1}),
+    Session([("docs/EXPLAINING.md", "passed: Re-key 1 items")], three("rekeyed_key_is_set_aside")),
     Session([("docs/EXPLAINING.md", "kind 6 IdentifierForm")], three("documents/identifier_is_an_integer"), status={"kmip_audit": 2}),
     Session([("docs/EXPLAINING.md", "kind 3 LeftOut")], three("call_left_out"), status={"kmip_audit": 2}),
     Session([("docs/EXPLAINING.md", "gave up: 3 steps")], three("deactivated_while_read"), status={"kmip_audit": 4}),
