@@ -12,7 +12,6 @@ ghost use Rattle.kmipa_check.specs.Deciding.{Decided};
 ghost use Rattle.kmipa_check.specs.Grants.{grants_of};
 ghost use Rattle.kmipa_check.specs.Numbers.{Indexes};
 
-use crate::copying::copy_asked;
 use crate::fault::{StepFault, WitnessKind};
 use crate::grants::Grants;
 use crate::numbers::FirstPlaces;
@@ -94,7 +93,7 @@ fn completed_ask<'a>(
             let given = read_birth(alloc, grants, birth)?;
             asked_with(alloc, &ask.asked, &given)?
         }
-        None => copy_asked(alloc, &ask.asked)?,
+        None => ask.asked.copy(alloc)?,
     };
     Ok(Ask {
         batch_id: ask.batch_id,
@@ -183,7 +182,7 @@ fn asked_with<'a>(
             attributes: Box::new(alloc, born_with(alloc, &register.attributes, birth)?)?,
             block: register.block,
         })),
-        other => copy_asked(alloc, other),
+        other => other.copy(alloc),
     }
 }
 

@@ -5,7 +5,6 @@ mod auditing;
 mod births;
 mod checking;
 mod completing;
-mod copying;
 mod fault;
 mod filling;
 mod grants;
@@ -31,7 +30,6 @@ pub use auditing::{AuditFault, AuditRecords, Audited, audit, audit_with, read_re
 pub use births::born_in;
 pub use checking::{check, check_calls};
 pub use completing::read_birth;
-pub use copying::copy_asked;
 pub use fault::{CheckFault, Side, StepFault, WitnessFault, WitnessKind};
 pub use filling::{are_wanted, filled, needs_fill, none_missing};
 pub use grants::Grants;

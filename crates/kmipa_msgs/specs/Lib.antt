@@ -2,6 +2,7 @@ pub mod Kinds
 pub mod Numbers
 pub mod Operations
 pub mod Messages
+pub mod Named
 pub mod Outside
 pub mod Yields
 pub mod Row
@@ -20,6 +21,7 @@ pub mod Brought
 pub mod Identifiers
 pub mod Gets
 pub mod GetsAttributes
+pub mod Beside
 pub mod Revokes
 pub mod Creates
 pub mod Asks

@@ -31,6 +31,15 @@ operation_of n =
     else if n == 30 then Idle n
     else Other n
 
+-- it is on an object, which its request names, or means by the ID Placeholder
+abbrev pub is_on_object : Operation → Bool
+is_on_object Get = true
+is_on_object GetAttributes = true
+is_on_object Activate = true
+is_on_object Revoke = true
+is_on_object Destroy = true
+is_on_object operation = false
+
 -- its payloads are read
 abbrev pub is_judged : Operation → Bool
 is_judged (Idle n) = false

@@ -20,9 +20,8 @@ pub use kind::OutsideKind;
 pub use laws::{one_payload, one_request, one_response, sayable_is_said};
 pub use operation::Operation;
 pub use reading::{
-    Unread, has_others, is_count, is_selective, item_count, lacks_order, message_parts,
-    read_answer, read_item, read_payload, read_references, read_request, read_response,
-    request_header, response_header, unless_there,
+    Unread, is_count, item_count, lacks_order, message_parts, read_answer, read_asked_beside,
+    read_item, read_payload, read_request, read_response, request_header, response_header,
 };
 pub use request::{
     Activate, Ask, Asked, BatchOption, Create, Destroy, Get, GetAttributes, Locate, Register,

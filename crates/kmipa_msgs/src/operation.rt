@@ -23,7 +23,7 @@ impl Operation {
     ghost use Rattle.std.specs.Prelude.{IsTrue, ◌↔◌};
     ghost use Rattle.kmipa_msgs.specs.Replies.{may_be_bare};
     ghost use Rattle.kmipa_msgs.specs.Wanted.{NeedsPayload};
-    ghost use Rattle.kmipa_msgs.specs.Operations.{operation_number, operation_of, is_judged};
+    ghost use Rattle.kmipa_msgs.specs.Operations.{operation_number, operation_of, is_judged, is_on_object};
 
     /// The number on the wire.
     pub fn number(self) -> u32
@@ -57,6 +57,18 @@ impl Operation {
             20 => Operation::Destroy,
             24 | 30 => Operation::Idle(number),
             _ => Operation::Other(number),
+        }
+    }
+
+    /// Whether it is on an object, which its request names, or means by the ID Placeholder.
+    pub fn is_on_object(self) -> bool
+        ensures { result ≡ is_on_object self }
+    {
+        match self {
+            Operation::Get | Operation::GetAttributes => true,
+            Operation::Activate | Operation::Revoke | Operation::Destroy => true,
+            Operation::Create | Operation::Register | Operation::Locate => false,
+            Operation::Idle(_) | Operation::Other(_) => false,
         }
     }
 

@@ -25,10 +25,9 @@ mod unread;
 
 pub use answer::read_answer;
 pub use ask::read_item;
-pub use get_attributes::{has_others, is_selective, read_references};
 pub use header::{is_count, item_count, message_parts};
+pub use operations::read_asked_beside;
 pub use payload::read_payload;
 pub use request::{lacks_order, read_request, request_header};
 pub use response::{read_response, response_header};
-pub use rows::unless_there;
 pub use unread::Unread;

@@ -169,3 +169,23 @@ impl<'a> Ask<'a> {
         self.operation().number()
     }
 }
+
+impl<'a> Asked<'a> {
+    ghost use Rattle.std.specs.Prelude.{◌≡◌};
+    ghost use Rattle.kmipa_msgs.specs.Messages.{asked_of, maybe_lent};
+    ghost use Rattle.kmipa_msgs.specs.Named.{id_named};
+
+    /// The identifier that is named; none where the ID Placeholder is meant, and where the operation isn't on an object.
+    pub fn id(&self) -> Option<&'a str>
+        ensures { maybe_lent result ≡ id_named (asked_of self.now) }
+    {
+        match self {
+            Asked::Get(get) => get.id,
+            Asked::GetAttributes(get) => get.id,
+            Asked::Activate(activate) => activate.id,
+            Asked::Revoke(revoke) => revoke.id,
+            Asked::Destroy(destroy) => destroy.id,
+            _ => None,
+        }
+    }
+}

@@ -13,7 +13,7 @@ use Rattle.kmipa_msgs.specs.declared.kind.OutsideKind.TheVariants.{IdentifierFor
 use Rattle.kmipa_msgs.specs.declared.operation.Operation.{Operation}
 use Rattle.kmipa_msgs.specs.declared.operation.Operation.TheVariants.{Create, Register, Locate, Get, GetAttributes, Activate, Revoke, Destroy, Idle, Other}
 use Rattle.kmipa_msgs.specs.Kinds.{kind_number}
-use Rattle.kmipa_msgs.specs.Operations.{operation_of, is_judged}
+use Rattle.kmipa_msgs.specs.Operations.{is_on_object, operation_of, is_judged}
 use Rattle.kmipa_msgs.specs.Messages.{AskedOf, gets, gets_attributes, GetAttributesOf, activates, revokes, destroys, AskOf}
 use Rattle.kmipa_msgs.specs.Tables.{unless_there}
 use Rattle.kmipa_msgs.specs.Asks.{asked_in, ask_at, ask_in, form_in, item_in, may_stand, means_placeholder, payload_asked}
@@ -21,8 +21,9 @@ use Rattle.kmipa_msgs.specs.Gets.{get_in}
 use Rattle.kmipa_msgs.specs.GetsAttributes.{references, as_reference, is_other, some_other, has_others, get_attributes_at, get_attributes_in}
 use Rattle.kmipa_msgs.specs.Identifiers.{identifier_in}
 use Rattle.kmipa_msgs.specs.Revokes.{revoke_at, revoke_in}
-use Rattle.kmipa_places.specs.Told.{is_on_object, asks_on_object, is_some_placeholder, behind_identifier, without_identifier, told_in, told_fields, told}
-use Rattle.kmipa_places.specs.Readings.{if_on_object, told_by, told_operation, asked_beside, item_beside}
+use Rattle.kmipa_places.specs.Told.{asks_on_object, is_some_placeholder, behind_identifier, without_identifier, told_in, told_fields, told}
+use Rattle.kmipa_msgs.specs.Beside.{asked_beside}
+use Rattle.kmipa_places.specs.Readings.{if_on_object, told_by, told_operation, item_beside}
 
 -- ---- where the ID Placeholder isn't meant so
 

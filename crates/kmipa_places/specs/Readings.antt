@@ -3,21 +3,20 @@ use Rattle.std.specs.Prelude.{◌≡◌, ℕ, suc, ℤ, Bool, not, ◌&&◌, if�
 use Rattle.std.specs.Option.{option_map}
 use Rattle.kmipa_ttlv.specs.Tree.{Tree, Trees}
 use Rattle.kmipa_ttlv.specs.ViewTree.{view_trees}
-use Rattle.kmipa_attrs.specs.Fields.{at, every, first, inside, as_enumeration, as_structure}
-use Rattle.kmipa_attrs.specs.Readings.{map_ok, needed, passing}
-use Rattle.kmipa_attrs.specs.Tags.{batch_item, key_wrapping_specification, request_payload, response_payload, revocation_reason, revocation_reason_code, unique_identifier}
+use Rattle.kmipa_attrs.specs.Fields.{at, every, first, inside, as_structure}
+use Rattle.kmipa_attrs.specs.Readings.{map_ok, passing}
+use Rattle.kmipa_attrs.specs.Tags.{batch_item, request_payload, response_payload, unique_identifier}
 use Rattle.kmipa_attrs.specs.declared.fields.Field.{Field}
 use Rattle.kmipa_attrs.specs.declared.fields.Field.TheVariants.{Absent, Wrong, There}
 use Rattle.kmipa_msgs.specs.declared.kind.OutsideKind.{OutsideKind}
-use Rattle.kmipa_msgs.specs.declared.kind.OutsideKind.TheVariants.{Wrapped, Missing, Unordered}
+use Rattle.kmipa_msgs.specs.declared.kind.OutsideKind.TheVariants.{Unordered}
 use Rattle.kmipa_msgs.specs.declared.operation.Operation.{Operation}
-use Rattle.kmipa_msgs.specs.declared.operation.Operation.TheVariants.{Get, GetAttributes, Activate, Revoke, Destroy}
-use Rattle.kmipa_msgs.specs.Operations.{operation_of}
-use Rattle.kmipa_msgs.specs.Messages.{AskedOf, gets, gets_attributes, activates, revokes, destroys, AskOf, ask_of, AnswerOf, answer_of}
-use Rattle.kmipa_msgs.specs.Tables.{children, unless_there}
+use Rattle.kmipa_msgs.specs.Operations.{is_on_object, operation_of}
+use Rattle.kmipa_msgs.specs.Messages.{AskOf, ask_of, AnswerOf, answer_of}
+use Rattle.kmipa_msgs.specs.Tables.{children}
 use Rattle.kmipa_msgs.specs.Headers.{batch}
 use Rattle.kmipa_msgs.specs.Asks.{ask_at, item_in}
-use Rattle.kmipa_msgs.specs.GetsAttributes.{get_attributes_at}
+use Rattle.kmipa_msgs.specs.Beside.{asked_beside}
 use Rattle.kmipa_msgs.specs.Replies.{answer_in}
 use Rattle.kmipa_msgs.specs.Requests.{HeaderOf, header_in, is_without_order}
 use Rattle.kmipa_msgs.specs.Responses.{stamp_in}
@@ -25,7 +24,7 @@ use Rattle.kmipa_passed.specs.Leaving.{AsideOf}
 use Rattle.kmipa_passed.specs.Passed.{request_says, answer_says}
 use Rattle.kmipa_passed.specs.declared.passed.Outcome.{Outcome}
 use Rattle.kmipa_aside.specs.Passed.{PassedOf}
-use Rattle.kmipa_places.specs.Told.{is_on_object, is_some_placeholder, told}
+use Rattle.kmipa_places.specs.Told.{is_some_placeholder, told}
 use Rattle.kmipa_places.specs.Outcomes.{outcome_at, refuses}
 use Rattle.kmipa_places.specs.Unordered.{asks_in}
 use Rattle.kmipa_places.specs.Places.{PlaceOf, judged, passed, is_poll, names_to, number_in, operation_at}
@@ -51,15 +50,6 @@ told_by (There n) payload = if_on_object (operation_of n) payload
 
 abbrev pub told_operation : Tree → Option Operation
 told_operation t = told_by (operation_at t) (inside request_payload (children t))
-
--- what its payload asks for beside the identifier
-abbrev pub asked_beside : Operation → Trees → Result AskedOf OutsideKind
-asked_beside Get ts = map_ok (λ u. gets None) (unless_there (first key_wrapping_specification ts) Wrapped)
-asked_beside GetAttributes ts = Ok (gets_attributes (get_attributes_at ts None))
-asked_beside Activate ts = Ok (activates None)
-asked_beside Revoke ts = map_ok (λ n. revokes (record { id = None; code = n })) (needed (at as_enumeration revocation_reason_code (inside revocation_reason ts)) Missing Missing)
-asked_beside Destroy ts = Ok (destroys None)
-asked_beside operation ts = Err Missing
 
 abbrev pub item_beside : Bool → Operation → Tree → Result AskOf OutsideKind
 item_beside unordered operation t = passing (λ ask. not unordered) Unordered (map_ok (ask_at (children t)) (asked_beside operation (inside request_payload (children t))))

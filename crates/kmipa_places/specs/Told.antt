@@ -7,20 +7,9 @@ use Rattle.kmipa_attrs.specs.Fields.{at, first, as_enumeration}
 use Rattle.kmipa_attrs.specs.Tags.{operation_tag, request_payload, unique_identifier}
 use Rattle.kmipa_attrs.specs.declared.fields.Field.{Field}
 use Rattle.kmipa_attrs.specs.declared.fields.Field.TheVariants.{Absent, Wrong, There}
-use Rattle.kmipa_msgs.specs.declared.operation.Operation.{Operation}
-use Rattle.kmipa_msgs.specs.declared.operation.Operation.TheVariants.{Get, GetAttributes, Activate, Revoke, Destroy}
-use Rattle.kmipa_msgs.specs.Operations.{operation_of}
+use Rattle.kmipa_msgs.specs.Operations.{is_on_object, operation_of}
 
--- it is on an object, which its request names, or means by the ID Placeholder
-abbrev pub is_on_object : Operation → Bool
-is_on_object Get = true
-is_on_object GetAttributes = true
-is_on_object Activate = true
-is_on_object Revoke = true
-is_on_object Destroy = true
-is_on_object operation = false
-
--- the field is there, and has the number of such an operation
+-- the field is there, and has the number of an operation on an object
 abbrev pub asks_on_object : Field ℕ → Bool
 asks_on_object Absent = false
 asks_on_object Wrong = false

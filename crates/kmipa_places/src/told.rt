@@ -6,22 +6,16 @@ ghost use Rattle.kmipa_ttlv.specs.ViewTree.{view_tree, view_trees};
 ghost use Rattle.kmipa_attrs.specs.Fields.{first};
 ghost use Rattle.kmipa_attrs.specs.Tags.{unique_identifier};
 ghost use Rattle.kmipa_msgs.specs.Asks.{item_in};
-ghost use Rattle.kmipa_msgs.specs.Messages.{ask_of, asked_of};
+ghost use Rattle.kmipa_msgs.specs.Messages.{ask_of};
 ghost use Rattle.kmipa_msgs.specs.Yields.{Yields};
-ghost use Rattle.kmipa_places.specs.Readings.{asked_beside, item_beside, told_operation};
-ghost use Rattle.kmipa_places.specs.Told.{is_on_object, is_placeholder, is_some_placeholder, told};
+ghost use Rattle.kmipa_places.specs.Readings.{item_beside, told_operation};
+ghost use Rattle.kmipa_places.specs.Told.{is_placeholder, is_some_placeholder, told};
 
 use crate::item::{children_of, operation_at};
 use kmipa_attrs::Field;
-use kmipa_attrs::fields::{bytes_at, enumeration_at, first, inside};
-use kmipa_attrs::tags::{
-    KEY_WRAPPING_SPECIFICATION, REQUEST_PAYLOAD, REVOCATION_REASON, REVOCATION_REASON_CODE,
-    UNIQUE_BATCH_ITEM_ID, UNIQUE_IDENTIFIER,
-};
-use kmipa_msgs::{
-    Activate, Ask, Asked, Destroy, Get, GetAttributes, Operation, OutsideKind, Revoke, Unread,
-    has_others, is_selective, read_item, read_references, unless_there,
-};
+use kmipa_attrs::fields::{bytes_at, first, inside};
+use kmipa_attrs::tags::{REQUEST_PAYLOAD, UNIQUE_BATCH_ITEM_ID, UNIQUE_IDENTIFIER};
+use kmipa_msgs::{Ask, Operation, OutsideKind, Unread, read_asked_beside, read_item};
 use kmipa_ttlv::{Children, View, ViewValue};
 use std::alloc::Global;
 
@@ -47,28 +41,10 @@ fn told_operation(item: &View) -> Option<Operation>
     };
     let operation = Operation::of(number);
     let payload = inside(children_of(item), REQUEST_PAYLOAD);
-    if is_on_object(operation) && means_placeholder(payload) {
+    if operation.is_on_object() && means_placeholder(payload) {
         Some(operation)
     } else {
         None
-    }
-}
-
-/// Whether an operation is on an object.
-fn is_on_object(operation: Operation) -> bool
-    ensures { result ≡ is_on_object operation }
-{
-    match operation {
-        Operation::Get
-        | Operation::GetAttributes
-        | Operation::Activate
-        | Operation::Revoke
-        | Operation::Destroy => true,
-        Operation::Create
-        | Operation::Register
-        | Operation::Locate
-        | Operation::Idle(_)
-        | Operation::Other(_) => false,
     }
 }
 
@@ -110,7 +86,7 @@ fn read_beside<'a>(
     ensures { Yields ask_of result (item_beside unordered operation (view_tree item.now)) }
 {
     let children = children_of(item);
-    let asked = read_asked(alloc, operation, inside(children, REQUEST_PAYLOAD))?;
+    let asked = read_asked_beside(alloc, operation, inside(children, REQUEST_PAYLOAD))?;
     if unordered {
         return Err(Unread::Outside(OutsideKind::Unordered));
     }
@@ -118,41 +94,4 @@ fn read_beside<'a>(
         batch_id: bytes_at(children, UNIQUE_BATCH_ITEM_ID).value(),
         asked,
     })
-}
-
-/// What a payload asks for beside the identifier; no other operation is on an object.
-fn read_asked<'a>(
-    alloc: Global,
-    operation: Operation,
-    payload: Children,
-) -> Result<Asked<'a>, Unread>
-    ensures { Yields asked_of result (asked_beside operation (view_trees payload.entry)) }
-{
-    match operation {
-        Operation::Get => {
-            unless_there(payload, KEY_WRAPPING_SPECIFICATION, OutsideKind::Wrapped)?;
-            Ok(Asked::Get(Get { id: None }))
-        }
-        Operation::GetAttributes => Ok(Asked::GetAttributes(GetAttributes {
-            id: None,
-            references: read_references(alloc, payload)?,
-            is_selective: is_selective(payload),
-            has_others: has_others(payload),
-        })),
-        Operation::Activate => Ok(Asked::Activate(Activate { id: None })),
-        Operation::Revoke => {
-            let reason = inside(payload, REVOCATION_REASON);
-            let code = enumeration_at(reason, REVOCATION_REASON_CODE);
-            Ok(Asked::Revoke(Revoke {
-                id: None,
-                code: code.needed(OutsideKind::Missing, OutsideKind::Missing)?,
-            }))
-        }
-        Operation::Destroy => Ok(Asked::Destroy(Destroy { id: None })),
-        Operation::Create
-        | Operation::Register
-        | Operation::Locate
-        | Operation::Idle(_)
-        | Operation::Other(_) => Err(Unread::Outside(OutsideKind::Missing)),
-    }
 }

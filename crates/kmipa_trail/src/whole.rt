@@ -13,7 +13,7 @@ ghost use Rattle.kmipa_turns.specs.Steps.{step_of};
 ghost use Rattle.kmipa_trail.specs.Whole.{client_begun, is_refused, judged_pair, outcome_in, outcome_of, whole_call, whole_step};
 
 use kmipa_batch::is_refused_message;
-use kmipa_check::{Step as EverStep, copy_asked};
+use kmipa_check::Step as EverStep;
 use kmipa_msgs::{Answer, Ask, Request, Response, Status};
 use kmipa_passed::Outcome;
 use kmipa_places::{Place, Readable};
@@ -143,17 +143,7 @@ fn judged_places<'a>(
         let Some(answer) = answers.next() else {
             return Ok(places);
         };
-        places.push(Place::Judged(copy_ask(alloc, ask)?, answer))?;
+        places.push(Place::Judged(ask.copy(alloc)?, answer))?;
     }
     Ok(places)
-}
-
-/// An equal ask.
-fn copy_ask<'a>(alloc: Global, ask: &Ask<'a>) -> Result<Ask<'a>, AllocError>
-    ensures { IfOk result (λ copy. ask_of copy ≡ ask_of ask.now) }
-{
-    Ok(Ask {
-        batch_id: ask.batch_id,
-        asked: copy_asked(alloc, &ask.asked)?,
-    })
 }

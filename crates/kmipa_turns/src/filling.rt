@@ -10,8 +10,7 @@ ghost use Rattle.kmipa_check.specs.Grants.{grants_of};
 ghost use Rattle.kmipa_turns.specs.Turning.{AreBorn};
 
 use kmipa_check::{
-    FirstPlaces, Grants, StepFault, WitnessKind, are_wanted, born_in, copy_asked, filled,
-    none_missing,
+    FirstPlaces, Grants, StepFault, WitnessKind, are_wanted, born_in, filled, none_missing,
 };
 use kmipa_msgs::{Ask, Request, Response};
 use kmipa_record::{Birth, Fill};
@@ -65,17 +64,7 @@ fn copy_asks<'a>(alloc: Global, asks: &[Ask<'a>]) -> Result<Vec<Ask<'a>>, AllocE
 {
     let mut copies = Vec::with_capacity(alloc, asks.len())?;
     for ask in asks {
-        copies.push(copy_ask(alloc, ask)?)?;
+        copies.push(ask.copy(alloc)?)?;
     }
     Ok(copies)
-}
-
-/// An equal ask.
-fn copy_ask<'a>(alloc: Global, ask: &Ask<'a>) -> Result<Ask<'a>, AllocError>
-    ensures { IfOk result (λ copy. ask_of copy ≡ ask_of ask.now) }
-{
-    Ok(Ask {
-        batch_id: ask.batch_id,
-        asked: copy_asked(alloc, &ask.asked)?,
-    })
 }

@@ -48,24 +48,17 @@ pub fn read_item<'a>(alloc: Global, unordered: bool, view: &View<'a>) -> Result<
     ensures { Yields ask_of result (item_in unordered (view_tree view.now)) }
 {
     let ask = read_ask(alloc, view)?;
-    if unordered && means_placeholder(&ask.asked) {
+    if unordered && means_placeholder(&ask) {
         return Err(Unread::Outside(OutsideKind::Unordered));
     }
     Ok(ask)
 }
 
 /// Whether an operation on an object names none, so that the ID Placeholder is meant.
-fn means_placeholder(asked: &Asked) -> bool
-    ensures { result ≡ means_placeholder (asked_of asked.now) }
+fn means_placeholder(ask: &Ask) -> bool
+    ensures { result ≡ means_placeholder (ask_of ask.now).asked }
 {
-    match asked {
-        Asked::Get(get) => get.id.is_none(),
-        Asked::GetAttributes(get) => get.id.is_none(),
-        Asked::Activate(activate) => activate.id.is_none(),
-        Asked::Revoke(revoke) => revoke.id.is_none(),
-        Asked::Destroy(destroy) => destroy.id.is_none(),
-        _ => false,
-    }
+    ask.operation().is_on_object() && ask.asked.id().is_none()
 }
 
 #[tactic(auto, unfolding(crate::specs::Asks::ask_in))]
