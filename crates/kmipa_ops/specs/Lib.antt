@@ -19,6 +19,7 @@ pub mod Destroy
 pub mod Looking
 pub mod Locate
 pub mod Subjects
+pub mod Made
 pub mod Rows
 pub mod Founded
 pub mod Does

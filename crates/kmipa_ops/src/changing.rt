@@ -42,11 +42,7 @@ impl<'a> Deed for Changing<'a> {
         changing_row(self.id, self.change)
     }
 
-    fn holds<'p>(
-        &self,
-        held: Option<&'p str>,
-        _payload: &'p Option<Payload<'p>>,
-    ) -> Option<&'p str> {
+    fn holds<'p>(&self, held: Option<&'p str>, _payload: &Option<Payload<'p>>) -> Option<&'p str> {
         held
     }
 

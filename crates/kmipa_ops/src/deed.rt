@@ -52,7 +52,7 @@ pub(crate) trait Deed {
         ensures effect { effect_of result.effect ≡ effect_asked (asked self.now) };
 
     /// The identifier that the ID Placeholder holds after it, where it held this.
-    fn holds<'p>(&self, held: Option<&'p str>, payload: &'p Option<Payload<'p>>) -> Option<&'p str>
+    fn holds<'p>(&self, held: Option<&'p str>, payload: &Option<Payload<'p>>) -> Option<&'p str>
         ensures { maybe_lent result ≡ placeholder_done (maybe_lent held.entry) (asked self.now)
             (option_map payload_of payload.now) };
 

@@ -86,7 +86,7 @@ pub fn row_of<'b>(asked: &'b Asked<'b>) -> OperationRow<'b>
 pub fn held_after<'p>(
     asked: &Asked,
     held: Option<&'p str>,
-    payload: &'p Option<Payload<'p>>,
+    payload: &Option<Payload<'p>>,
 ) -> Option<&'p str>
     ensures { maybe_lent result ≡ placeholder_done (maybe_lent held.entry) (asked_of asked.now)
         (option_map payload_of payload.now) }
@@ -99,7 +99,7 @@ pub fn held_after<'p>(
 pub fn about<'p>(
     asked: &'p Asked<'p>,
     held: Option<&'p str>,
-    payload: &'p Option<Payload<'p>>,
+    payload: &Option<Payload<'p>>,
 ) -> Option<&'p str>
     ensures { maybe_lent result ≡ about_asked (maybe_lent held.entry) (asked_of asked.now)
         (option_map payload_of payload.now) }

@@ -47,11 +47,7 @@ impl Deed for Unjudged {
         }
     }
 
-    fn holds<'p>(
-        &self,
-        held: Option<&'p str>,
-        _payload: &'p Option<Payload<'p>>,
-    ) -> Option<&'p str> {
+    fn holds<'p>(&self, held: Option<&'p str>, _payload: &Option<Payload<'p>>) -> Option<&'p str> {
         held
     }
 

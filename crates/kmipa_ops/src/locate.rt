@@ -39,11 +39,7 @@ impl Deed for Locate {
         }
     }
 
-    fn holds<'p>(
-        &self,
-        held: Option<&'p str>,
-        payload: &'p Option<Payload<'p>>,
-    ) -> Option<&'p str> {
+    fn holds<'p>(&self, held: Option<&'p str>, payload: &Option<Payload<'p>>) -> Option<&'p str> {
         match shown(payload) {
             Some(located) => only(located.ids.as_slice()),
             None => held,
@@ -79,7 +75,7 @@ impl Deed for Locate {
 }
 
 /// What a payload shows, if it is one of a Locate.
-fn shown<'a>(payload: &'a Option<Payload<'a>>) -> Option<&'a Located<'a>>
+fn shown<'b, 'a>(payload: &'b Option<Payload<'a>>) -> Option<&'b Located<'a>>
     ensures { option_map (λ x. located_of x.now) result
         ≡ option_and_then seen_located (option_map payload_of payload.now) }
 {

@@ -2,7 +2,7 @@
 
 use crate::change::Change;
 use kmipa_attrs::{AttrSet, Filter, Name, ObjectType};
-use kmipa_msgs::{GetAttributes, KeyBlock};
+use kmipa_msgs::{GetAttributes, KeyBlock, Payload, Registered};
 use kmipa_object::Act;
 
 /// What an operation is to those who ask: whom it is about, and what it does.
@@ -79,9 +79,11 @@ impl<'a> Subject<'a> {
 }
 
 impl<'a> New<'a> {
-    ghost use Rattle.std.specs.Prelude.{◌≡◌};
-    ghost use Rattle.kmipa_msgs.specs.Messages.{maybe_lent};
+    ghost use Rattle.std.specs.Prelude.{◌≡◌, Some, option_and_then, option_map};
+    ghost use Rattle.kmipa_attrs.specs.ObjectTypes.{type_number};
+    ghost use Rattle.kmipa_msgs.specs.Messages.{maybe_lent, payload_of, registered_of};
     ghost use Rattle.kmipa_ops.specs.Effects.{brought_by, makes};
+    ghost use Rattle.kmipa_ops.specs.Made.{seen_with, shown_with};
     ghost use Rattle.kmipa_ops.specs.Subjects.{new_of};
 
     /// The bytes that are brought, if they are.
@@ -91,6 +93,33 @@ impl<'a> New<'a> {
         match self.block {
             Some(block) => Some(block.material),
             None => None,
+        }
+    }
+
+    /// The payload that says that it was made, with this identifier.
+    pub fn payload<'p>(self, id: &'p str) -> Payload<'p>
+        ensures { payload_of result
+            ≡ shown_with (new_of self.entry).block (record { object_type = Some (type_number self.entry.kind); id = id.now }) }
+    {
+        let made = Registered {
+            object_type: Some(self.kind.number()),
+            id,
+        };
+        match self.block {
+            Some(_) => Payload::Register(made),
+            None => Payload::Create(made),
+        }
+    }
+
+    /// What the payload of its operation shows of it.
+    pub fn answered<'p>(self, payload: &Option<Payload<'p>>) -> Option<Registered<'p>>
+        ensures { option_map registered_of result
+            ≡ option_and_then (seen_with (new_of self.entry).block) (option_map payload_of payload.now) }
+    {
+        match (self.block, payload) {
+            (Some(_), Some(Payload::Register(made))) => Some(*made),
+            (None, Some(Payload::Create(made))) => Some(*made),
+            _ => None,
         }
     }
 }

@@ -51,11 +51,7 @@ impl<'a> Deed for Register<'a> {
         }
     }
 
-    fn holds<'p>(
-        &self,
-        held: Option<&'p str>,
-        payload: &'p Option<Payload<'p>>,
-    ) -> Option<&'p str> {
+    fn holds<'p>(&self, held: Option<&'p str>, payload: &Option<Payload<'p>>) -> Option<&'p str> {
         match shown(payload) {
             Some(registered) => Some(registered.id),
             None => held,
@@ -97,7 +93,7 @@ impl<'a> Deed for Register<'a> {
 }
 
 /// What a payload shows, if it is one of a Register.
-fn shown<'a>(payload: &'a Option<Payload<'a>>) -> Option<&'a Registered<'a>>
+fn shown<'b, 'a>(payload: &'b Option<Payload<'a>>) -> Option<&'b Registered<'a>>
     ensures { option_map (λ x. registered_of x.now) result
         ≡ option_and_then seen_registered (option_map payload_of payload.now) }
 {
