@@ -4,7 +4,8 @@ ghost use Rattle.std.specs.Prelude.{◌≡◌, ◌++◌, ◌≤◌, List, None, 
 ghost use Rattle.kmipa_msgs.specs.Messages.{AskOf, answer_of, ask_of, lent, request_of, response_of};
 ghost use Rattle.kmipa_parts.specs.Parts.{AllLeaveBe, ArePartItems, is_among};
 
-use crate::item::{PartItem, idle_ask, leaves_be, part_item};
+use crate::idle::idle_ask;
+use crate::item::{PartItem, leaves_be, part_item};
 use crate::subject::held_after;
 use kmipa_msgs::{Answer, Ask, Request, Response};
 use std::alloc::{AllocError, Global};

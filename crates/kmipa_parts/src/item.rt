@@ -1,18 +1,18 @@
 //! The part of an item on some objects.
 
 ghost use Rattle.std.specs.Prelude.{◌≡◌, ◌≢◌, ℕ, pos, List, Option, length, map, None, Some, IfOk, IfSome, bytes_eq, false, true};
-ghost use Rattle.kmipa_msgs.specs.Messages.{answer_of, ask_of, asked_of, idles, lent, locate_of, located, located_of, locates, maybe_lent};
+ghost use Rattle.kmipa_msgs.specs.Messages.{answer_of, ask_of, asked_of, lent, locate_of, located, located_of, locates, maybe_lent};
 ghost use Rattle.kmipa_ops.specs.Locate.{is_full};
-ghost use Rattle.kmipa_parts.specs.Parts.{IsIdle, IsPart, LeavesBe, filter_own, is_among, is_change, is_own, only_own};
-ghost use Rattle.kmipa_parts.specs.Making.{IsStay};
+ghost use Rattle.kmipa_ops.specs.Subjects.{effect_of};
+ghost use Rattle.kmipa_parts.specs.Parts.{IsPart, LeavesBe, filter_own, is_among, is_change, is_own, only_own};
+ghost use Rattle.kmipa_parts.specs.Making.{IsStay, adds_or_changes};
 
-use crate::copies::{copy_answer, copy_locate, limited, written};
+use crate::copies::{limited, written};
+use crate::idle::idle;
 use crate::subject::about;
 use kmipa_msgs::{Answer, Ask, Asked, Locate, Located, Payload, Status};
+use kmipa_ops::{Effect, row_of};
 use std::alloc::{AllocError, Global};
-
-/// The number of Query, an operation without effect (KMIP 2.1, section 6.1).
-const QUERY: u32 = 24;
 
 /// The part of an item on some objects.
 #[derive(Drop)]
@@ -102,12 +102,15 @@ pub fn is_among(ids: &[&str], id: &str) -> bool
 fn is_change(asked: &Asked) -> bool
     ensures { result ≡ is_change (asked_of asked.now) }
 {
-    match asked {
-        Asked::Create(_) => true,
-        Asked::Register(_) => true,
-        Asked::Activate(_) => true,
-        Asked::Revoke(_) => true,
-        Asked::Destroy(_) => true,
+    adds_or_changes(row_of(asked).effect)
+}
+
+/// Whether what an operation does adds an object or changes one.
+fn adds_or_changes(effect: Effect) -> bool
+    ensures { result ≡ adds_or_changes (effect_of effect.entry) }
+{
+    match effect {
+        Effect::Makes(_) | Effect::Changes(_) => true,
         _ => false,
     }
 }
@@ -126,7 +129,7 @@ fn stays<'a>(
             batch_id: ask.batch_id,
             asked: written(alloc, id, &ask.asked)?,
         },
-        answer: copy_answer(alloc, answer)?,
+        answer: answer.copy(alloc)?,
     })
 }
 
@@ -224,7 +227,7 @@ fn locate_own(
         (λ l. locate_of l ≡ filter_own (locate_of locate.now) (length (map lent listed.now)) (length (map lent own.now)))) }
 {
     if !is_full(maximum_of(locate), listed.len()) {
-        return Ok(Some(copy_locate(alloc, locate)?));
+        return Ok(Some(locate.copy(alloc)?));
     }
     match maximum_for(own.len()) {
         Some(most) => Ok(Some(limited(alloc, locate, most)?)),
@@ -277,30 +280,4 @@ fn is_same(id: &str, other: &str) -> bool
     ensures { result ≡ bytes_eq id.now other.now }
 {
     id == other
-}
-
-/// An item without effect, of this status.
-fn idle<'a>(status: Status) -> PartItem<'a>
-    ensures { IsIdle status (ask_of result.ask) (answer_of result.answer) }
-{
-    PartItem {
-        ask: idle_ask(),
-        answer: Answer {
-            operation: None,
-            batch_id: None,
-            status,
-            reason: None,
-            payload: None,
-        },
-    }
-}
-
-/// The ask of an item without effect.
-pub fn idle_ask<'a>() -> Ask<'a>
-    ensures { ask_of result ≡ record { batch_id = None; asked = idles 24 } }
-{
-    Ask {
-        batch_id: None,
-        asked: Asked::Idle(QUERY),
-    }
 }

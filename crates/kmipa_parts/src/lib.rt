@@ -3,6 +3,7 @@
 
 mod call;
 mod copies;
+mod idle;
 mod item;
 mod laws;
 mod subject;
