@@ -1,6 +1,7 @@
 -- WHICH IDENTIFIERS A CALL NAMES, item by item (profile): those in its request, and those in its answer.
 use Rattle.std.specs.Prelude.{ℕ, suc, ℤ, Bool, true, false, not, ◌&&◌, if◌then◌else◌, List, [], ◌∷◌, ◌++◌, map, Option, Some, None}
-use Rattle.kmipa_msgs.specs.Messages.{AskedOf, PayloadOf, operation_asked, creates, registers, locates, gets, gets_attributes, activates, revokes, destroys, idles, does_other, created, registered, located, got, got_attributes, changed}
+use Rattle.kmipa_msgs.specs.Messages.{PayloadOf, operation_asked, created, registered, located, got, got_attributes, changed}
+use Rattle.kmipa_msgs.specs.Named.{id_named}
 use Rattle.kmipa_msgs.specs.Operations.{operation_number}
 use Rattle.kmipa_passed.specs.Leaving.{AsideOf, these, strangers, all, over}
 use Rattle.kmipa_passed.specs.declared.passed.Outcome.{Outcome}
@@ -18,19 +19,6 @@ abbrev pub only : Option (List ℕ) → List (List ℕ)
 only None = []
 only (Some id) = id ∷ []
 
--- the identifier that a judged item asks for
-abbrev pub id_asked : AskedOf → Option (List ℕ)
-id_asked (creates a) = None
-id_asked (registers r) = None
-id_asked (locates q) = None
-id_asked (gets id) = id
-id_asked (gets_attributes g) = g.id
-id_asked (activates id) = id
-id_asked (revokes r) = r.id
-id_asked (destroys id) = id
-id_asked (idles n) = None
-id_asked (does_other n) = None
-
 -- those that its answer tells
 abbrev pub ids_told : PayloadOf → List (List ℕ)
 ids_told (created r) = r.id ∷ []
@@ -44,9 +32,10 @@ abbrev pub ids_answered : Option PayloadOf → List (List ℕ)
 ids_answered None = []
 ids_answered (Some p) = ids_told p
 
--- of an item that isn't judged each text under the tag of an identifier, in its request and in its answer
+-- of a judged item the identifier that it asks for, and those that its answer tells; of one that isn't judged each text under the tag of an
+-- identifier, in its request and in its answer
 abbrev pub ids_at : PlaceOf → List (List ℕ)
-ids_at (judged ask answer) = only (id_asked ask.asked) ++ ids_answered answer.payload
+ids_at (judged ask answer) = only (id_named ask.asked) ++ ids_answered answer.payload
 ids_at (passed by p) = p.ask.names ++ p.answer.names
 
 -- the number of the operation that is asked for

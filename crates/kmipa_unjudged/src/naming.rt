@@ -1,15 +1,15 @@
 //! Which identifiers a step names.
 
 ghost use Rattle.std.specs.Prelude.{◌≡◌, ◌++◌, IfOk, OnOk, map, option_map};
-ghost use Rattle.kmipa_msgs.specs.Messages.{answer_of, ask_of, asked_of, lent, maybe_lent, payload_of};
+ghost use Rattle.kmipa_msgs.specs.Messages.{answer_of, ask_of, lent, maybe_lent, payload_of};
 ghost use Rattle.kmipa_passed.specs.Leaving.{aside_of};
 ghost use Rattle.kmipa_places.specs.Places.{place_of};
 ghost use Rattle.kmipa_turns.specs.Steps.{step_of};
-ghost use Rattle.kmipa_unjudged.specs.Naming.{id_asked, ids_answered, ids_at, ids_left, ids_told, is_cause, may_change, named_among, named_at, named_by, named_from, named_in, only, operation_at, origin_at, origin_unread};
+ghost use Rattle.kmipa_unjudged.specs.Naming.{ids_answered, ids_at, ids_left, ids_told, is_cause, may_change, named_among, named_at, named_by, named_from, named_in, only, operation_at, origin_at, origin_unread};
 ghost use Rattle.kmipa_unjudged.specs.Told.{named_of};
 
 use crate::named::{Named, Origin};
-use kmipa_msgs::{Asked, Payload};
+use kmipa_msgs::Payload;
 use kmipa_passed::{Outcome, SetAside, Sort};
 use kmipa_places::Place;
 use kmipa_turns::{Step, Taken};
@@ -134,7 +134,7 @@ fn push_place<'a>(
 {
     match place {
         Place::Judged(ask, answer) => {
-            push_only(id_asked(&ask.asked), origin, named)?;
+            push_only(ask.asked.id(), origin, named)?;
             push_answered(&answer.payload, origin, named)
         }
         Place::Passed(_, passed) => {
@@ -151,21 +151,6 @@ fn operation_at(place: &Place) -> u32
     match place {
         Place::Judged(ask, _) => ask.operation().number(),
         Place::Passed(_, passed) => passed.asks,
-    }
-}
-
-/// The identifier that a judged item asks for.
-fn id_asked<'a>(asked: &Asked<'a>) -> Option<&'a str>
-    ensures { maybe_lent result ≡ id_asked (asked_of asked.now) }
-{
-    match asked {
-        Asked::Get(get) => get.id,
-        Asked::GetAttributes(get) => get.id,
-        Asked::Activate(activate) => activate.id,
-        Asked::Revoke(revoke) => revoke.id,
-        Asked::Destroy(destroy) => destroy.id,
-        Asked::Create(_) | Asked::Register(_) | Asked::Locate(_) => None,
-        Asked::Idle(_) | Asked::Other(_) => None,
     }
 }
 
