@@ -3,7 +3,8 @@
 ghost use Rattle.std.specs.Prelude.{◌≡◌};
 ghost use Rattle.kmipa_turns.specs.Steps.{moment_of, step_of};
 
-use kmipa_msgs::{Answer, Ask, Asked, Status};
+use kmipa_msgs::{Answer, Ask, Status};
+use kmipa_ops::{Change, Effect as Done, row_of};
 use kmipa_passed::{Outcome, Sort};
 use kmipa_places::Place;
 use kmipa_turns::{Step, Taken};
@@ -109,15 +110,15 @@ fn effect_judged(ask: &Ask, answer: &Answer) -> Effect {
     if answer.status == Status::Failed {
         return Effect::Looks;
     }
-    match &ask.asked {
-        Asked::Create(_) | Asked::Register(_) => Effect::Brings,
-        Asked::Activate(_) | Asked::Revoke(_) => Effect::Changes,
-        Asked::Destroy(_) => Effect::TakesAway,
-        Asked::Locate(_)
-        | Asked::Get(_)
-        | Asked::GetAttributes(_)
-        | Asked::Idle(_)
-        | Asked::Other(_) => Effect::Looks,
+    match row_of(&ask.asked).effect {
+        Done::Makes(_) => Effect::Brings,
+        Done::Changes(Change::Destroy) => Effect::TakesAway,
+        Done::Changes(Change::Activate | Change::Revoke(_)) => Effect::Changes,
+        Done::Lists(_)
+        | Done::ShowsBytes
+        | Done::ShowsAttributes(_)
+        | Done::Nothing
+        | Done::Unread => Effect::Looks,
     }
 }
 
