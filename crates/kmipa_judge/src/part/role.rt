@@ -3,7 +3,8 @@
 use crate::reduced::item_spelled;
 use kmipa_aside::Passed;
 use kmipa_check::FirstPlaces;
-use kmipa_msgs::{Answer, Ask, Asked, Payload, Status};
+use kmipa_msgs::{Answer, Ask, Payload, Status};
+use kmipa_ops::{Effect, row_of};
 use kmipa_passed::{Asked as Meant, Outcome, PassedAnswer, PassedAsk, SetAside, Sort};
 use kmipa_places::{Call, Place, read_call};
 use kmipa_record::Turn;
@@ -114,17 +115,17 @@ impl<'a> Role<'a> {
 
     /// What a judged item names, and what it did.
     fn take_judged(&mut self, ask: &Ask<'a>, answer: &Answer<'a>) -> Result<(), AllocError> {
-        self.name(id_asked(&ask.asked))?;
+        self.name(ask.asked.id())?;
         if let Some(payload) = &answer.payload {
             self.take_payload(payload)?;
         }
         if answer.status == Status::Failed {
             return Ok(());
         }
-        match &ask.asked {
-            Asked::Locate(_) | Asked::Idle(_) | Asked::Other(_) => {}
-            Asked::GetAttributes(_) => self.acts = true,
-            _ => {
+        match row_of(&ask.asked).effect {
+            Effect::Lists(_) | Effect::Nothing | Effect::Unread => {}
+            Effect::ShowsAttributes(_) => self.acts = true,
+            Effect::Makes(_) | Effect::Changes(_) | Effect::ShowsBytes => {
                 self.acts = true;
                 self.changes = true;
             }
@@ -174,19 +175,6 @@ impl<'a> Role<'a> {
             self.names.push(*id)?;
         }
         Ok(())
-    }
-}
-
-/// The identifier that a judged item asks for.
-fn id_asked<'a>(asked: &Asked<'a>) -> Option<&'a str> {
-    match asked {
-        Asked::Get(get) => get.id,
-        Asked::GetAttributes(get) => get.id,
-        Asked::Activate(activate) => activate.id,
-        Asked::Revoke(revoke) => revoke.id,
-        Asked::Destroy(destroy) => destroy.id,
-        Asked::Create(_) | Asked::Register(_) | Asked::Locate(_) => None,
-        Asked::Idle(_) | Asked::Other(_) => None,
     }
 }
 

@@ -2,7 +2,9 @@
 
 use super::scope::Scope;
 use kmipa_aside::Passed;
-use kmipa_msgs::{Answer, Ask, Asked, Locate, Payload, Status};
+use kmipa_attrs::Filter;
+use kmipa_msgs::{Answer, Ask, Payload, Status};
+use kmipa_ops::{Effect, row_of};
 use kmipa_passed::{Asked as Meant, Held, Outcome, Shown, Sort};
 use kmipa_places::{Place, Readable};
 use std::alloc::{AllocError, Global};
@@ -75,15 +77,14 @@ impl<'n, 'a> Standing<'n, 'a> {
             self.leave_out(answer);
             return None;
         }
-        match &ask.asked {
-            Asked::Create(_) | Asked::Register(_) => self.of_birth(place, answer),
-            Asked::Locate(locate) => self.of_locate(place, locate, answer),
-            Asked::Get(get) => self.of_object(place, get.id, answer),
-            Asked::GetAttributes(get) => self.of_attributes(place, get.id, answer),
-            Asked::Activate(activate) => self.of_object(place, activate.id, answer),
-            Asked::Revoke(revoke) => self.of_object(place, revoke.id, answer),
-            Asked::Destroy(destroy) => self.of_object(place, destroy.id, answer),
-            Asked::Idle(_) | Asked::Other(_) => Some(whole(place)),
+        match row_of(&ask.asked).effect {
+            Effect::Makes(_) => self.of_birth(place, answer),
+            Effect::Lists(filter) => self.of_locate(place, filter, answer),
+            Effect::ShowsBytes | Effect::Changes(_) => {
+                self.of_object(place, ask.asked.id(), answer)
+            }
+            Effect::ShowsAttributes(_) => self.of_attributes(place, ask.asked.id(), answer),
+            Effect::Nothing | Effect::Unread => Some(whole(place)),
         }
     }
 
@@ -133,14 +134,14 @@ impl<'n, 'a> Standing<'n, 'a> {
     }
 
     /// A Locate, without what it lists that is out of the scope. Where it lists as many as it may, and all of these are, it says nothing else.
-    fn of_locate(&mut self, place: usize, locate: &Locate, answer: &Answer<'a>) -> Option<Part> {
+    fn of_locate(&mut self, place: usize, filter: &Filter, answer: &Answer<'a>) -> Option<Part> {
         let Some(Payload::Locate(located)) = &answer.payload else {
             return Some(whole(place));
         };
         let listed = located.ids.len();
         let (count, first) = self.within(&located.ids);
         self.held = held_alone(&located.ids);
-        let is_full = is_reached(locate.filter.maximum, listed);
+        let is_full = is_reached(filter.maximum, listed);
         if is_full && count == 0 && listed > 0 {
             return None;
         }
