@@ -5,6 +5,7 @@ use crate::candidate::Candidate;
 use crate::plain::candidate_of;
 use kmipa_attrs::{AttrSet, Filter};
 use kmipa_msgs::{Answer, Ask, Asked, Payload, Status};
+use kmipa_ops::{Effect, row_of};
 use kmipa_parts::{about, held_after, may_touch};
 use kmipa_record::{Call, Declaration};
 use std::alloc::{AllocError, Global};
@@ -180,8 +181,8 @@ impl<'b, 'a> Namings<'b, 'a> {
                 self.names.push((name, place, id))?;
             }
         }
-        match &ask.asked {
-            Asked::Locate(locate) => self.push_located(place, &locate.filter, answer),
+        match row_of(&ask.asked).effect {
+            Effect::Lists(filter) => self.push_located(place, filter, answer),
             _ => Ok(()),
         }
     }
@@ -219,9 +220,8 @@ impl<'b, 'a> Namings<'b, 'a> {
 
 /// The first name of the object that an item makes.
 fn new_name<'c>(asked: &'c Asked) -> Option<&'c str> {
-    match asked {
-        Asked::Create(create) => first_name(&create.attributes),
-        Asked::Register(register) => first_name(&register.attributes),
+    match row_of(asked).effect {
+        Effect::Makes(new) => first_name(new.attributes),
         _ => None,
     }
 }

@@ -6,7 +6,7 @@ ghost use Rattle.kmipa_object.specs.declared.life.SecretNo.{SecretNo};
 ghost use Rattle.kmipa_store.specs.Choices.{IsSound};
 
 use kmipa_attrs::{AttrSet, Filter, ObjectType};
-use kmipa_msgs::{Answer, Ask, Asked, Payload};
+use kmipa_msgs::{Answer, Ask, Payload};
 use kmipa_object::{Object, State};
 use kmipa_ops::{Effect, Fit, Placeholder, matches, row_of};
 use kmipa_orders::known_of;
@@ -164,13 +164,11 @@ fn declared_bytes<'b>(declaration: &'b Declaration, id: &str) -> Option<&'b [u8]
 
 /// The bytes of the object with this identifier that an item brings or shows.
 fn shown_bytes<'b, 'a>(ask: &'b Ask<'a>, answer: &'b Answer<'a>, id: &str) -> Option<&'b [u8]> {
-    match (&ask.asked, &answer.payload) {
-        (Asked::Register(register), Some(Payload::Register(made))) if made.id == id => {
-            Some(register.block.material)
-        }
-        (Asked::Get(get), Some(Payload::Get(got))) if got.id.or(get.id) == Some(id) => {
-            Some(got.block.material)
-        }
+    let row = row_of(&ask.asked);
+    match (row.effect, &answer.payload) {
+        (Effect::Makes(new), Some(Payload::Register(made))) if made.id == id => new.material(),
+        (Effect::ShowsBytes, Some(Payload::Get(got))) if got.id.or(row.subject.id()) == Some(id) =>
+            { Some(got.block.material) }
         _ => None,
     }
 }

@@ -1,10 +1,8 @@
 //! The answer that is guessed of a call without an end mark.
 
 use super::call::OpenCall;
-use kmipa_attrs::ObjectType;
-use kmipa_msgs::{
-    Answer, Ask, Asked, Changed, Payload, Registered, Response, Status, write_response,
-};
+use kmipa_msgs::{Answer, Ask, Changed, Payload, Response, Status, write_response};
+use kmipa_ops::{Effect, row_of};
 use kmipa_ttlv::{Item, encode, spelled_len};
 use std::alloc::{AllocError, Global};
 
@@ -29,15 +27,8 @@ pub fn guessed_answer(
 }
 
 fn guessed_payload<'p>(ask: &Ask, id: &'p str) -> Option<Payload<'p>> {
-    match &ask.asked {
-        Asked::Create(_) => Some(Payload::Create(Registered {
-            object_type: Some(ObjectType::SymmetricKey.number()),
-            id,
-        })),
-        Asked::Register(register) => Some(Payload::Register(Registered {
-            object_type: Some(register.object_type.number()),
-            id,
-        })),
+    match row_of(&ask.asked).effect {
+        Effect::Makes(new) => Some(new.payload(id)),
         _ => Some(Payload::Change(Changed { id: Some(id) })),
     }
 }
