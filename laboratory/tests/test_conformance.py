@@ -13,12 +13,14 @@ import messages
 import sessions
 from laboratory import FOLDER, InFolder
 from messages import answering, asking, number, structure, text
-from sessions import ACTIVATE, DESTROY, GET, GET_ATTRIBUTES, LOCATE, REGISTER, REVOKE, attributes, identifier
+from sessions import ACTIVATE, CREATE, DESTROY, GET, GET_ATTRIBUTES, LOCATE, REGISTER, REVOKE, attributes, identifier
 from test_report import STRANGE, Page, report
 
 from kmip_laboratory.calls import read_transcript
 from kmip_laboratory.reporting.basis import BY_STAMPS, BY_TURNS, Basis, read_basis
+from kmip_laboratory.reporting.reasons import WHY
 from kmip_laboratory.reporting.states import TABLE, Possible, Standing
+from kmip_laboratory.reporting.whys import NAMES
 from kmip_laboratory.verdicts import read_verdict
 
 EXAMPLES = FOLDER.parent / "examples"
@@ -192,6 +194,64 @@ class States(InFolder):
             self.assertGreater(cells(basis_of(EXAMPLES / name, line), "States")[cell][0], 0, name)
 
 
+class Reasons(InFolder):
+    """The numbered reasons of docs/PROFILE.md: which answers were held against each."""
+
+    def held(self, made: Recording) -> dict[int, int]:
+        """How many were, by the number."""
+        return {int(name.split()[0]): count for (name, _), (count,) in cells(made.basis(), "Reasons").items()}
+
+    def test_they_are_those_of_the_profile(self) -> None:
+        told = (FOLDER.parent / "docs/PROFILE.md").read_text("utf-8").partition("## Why an answer is impossible\n")[2]
+        listed = re.findall(r"^- (\d+) · (\w+) · ", told.partition("\n## ")[0], re.MULTILINE)
+        self.assertEqual(listed, [(str(number), name) for number, name in enumerate(NAMES, 1)])
+        self.assertEqual(set(WHY), set(range(1, len(NAMES) + 1)))
+
+    def test_a_life(self) -> None:
+        """Of six calls in a row the first has none ahead of it."""
+        made = Recording(self.folder)
+        state = number(0x42008D, 5, 1)
+        for item in (register("k"), done(GET, "k"), done(ACTIVATE, "k"), refused(DESTROY, "other", NOT_FOUND),
+                     (GET_ATTRIBUTES, identifier("k"), None, identifier("k") + attributes(state)),
+                     (LOCATE, b"", None, identifier("k"))):
+            made.call(item)
+        self.assertEqual(self.held(made), {1: 5, 2: 5, 3: 6, 4: 6, 5: 3, 6: 3, 7: 1, 9: 1, 10: 1, 11: 2, 12: 1, 13: 1,
+                                           14: 1, 15: 1, 16: 3})
+
+    def test_bytes_are_known_once_they_are_shown(self) -> None:
+        """Those of a key that was created the first Get teaches; a declared key may have its own."""
+        made = Recording(self.folder, sessions.entry("k", bytes(16)))
+        asked = number(0x420057, 5, 2) + attributes(number(0x420028, 5, 3), number(0x42002A, 2, 128))
+        for item in ((CREATE, asked, None, number(0x420057, 5, 2) + identifier("c")), done(GET, "c"), done(GET, "c"),
+                     done(GET, "k")):
+            made.call(item)
+        held = self.held(made)
+        self.assertEqual((held[7], held[9], held[10], held[16]), (1, 2, 2, 4))
+
+    def test_calls_at_once_have_none_ahead(self) -> None:
+        made = Recording(self.folder, sessions.entry("k", bytes(16)))
+        made.call(done(GET, "k"))
+        made.call(done(GET, "k"))
+        made.marks = [made.marks[0], made.marks[2], made.marks[1], made.marks[3]]
+        self.assertNotIn(1, self.held(made))
+
+    def test_two_hold_only_where_they_are_declared(self) -> None:
+        """Names that are unique, and objects that a server has to hide: else nobody counts them as never tried."""
+        made = Recording(self.folder)
+        made.call(register("k", sessions.name("n")))
+        made.call(done(GET, "k"))
+        self.assertLessEqual({8, 17} & set(self.held(made)), set())
+        self.assertFalse([name for section in made.basis().sections for name in section.never()
+                          if name.startswith(("8 ", "17 "))])
+        told = structure(0x540030, number(0x540002, 2, 2), number(0x540031, 6, 1, 8), number(0x540035, 5, 1),
+                         number(0x540037, 5, 3))
+        (self.folder / "declaration.ttlv").write_bytes(told)
+        made.marks[2] = messages.begin(2, messages.request(asking(GET, identifier("k"))), "other/1")
+        self.assertEqual({number: self.held(made).get(number) for number in (8, 17)}, {8: 1, 17: 1})
+        made.marks[2] = messages.begin(2, messages.request(asking(GET, identifier("k"))), "a/2")
+        self.assertEqual({number: self.held(made).get(number) for number in (8, 17)}, {8: 1, 17: None})
+
+
 class Tables(InFolder):
     """The other parts of the table, and what was judged."""
 
@@ -271,7 +331,8 @@ class Tables(InFolder):
         (case,) = ElementTree.parse(xml).getroot()
         numbers = {each.get("name"): each.get("value") for each in case.iter("property")}
         self.assertEqual([numbers[f"{name} judged"] for name in ("calls", "items", "objects")], ["2", "2", "1"])
-        self.assertEqual(numbers["cells exercised"], "1", "Get of an object that is Pre-Active")
+        # Get of an object that is Pre-Active, and all reasons but those of names, lists, attributes, refusals, owners.
+        self.assertEqual(numbers["cells exercised"], "12")
         self.assertIn("Get: Pre-Active 1 / 0", case.findtext("system-out") or "")
 
     def test_findings_stand_first_and_lead_to_their_story(self) -> None:

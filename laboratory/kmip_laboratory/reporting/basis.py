@@ -16,6 +16,7 @@ from .exercised import OfAttributes, OfFilters, OfReasons, OfStates
 from .lives import Lives, Seen
 from .steps import taken
 from .turns import Turn, by_time_stamp, read_turns
+from .whys import OfWhys
 
 READING = "This is the report's reading of the recording, and not the auditor's word."
 BY_TURNS = "States are those that the calls leave in the order of the turns."
@@ -61,14 +62,16 @@ def _told(order: str, calls: list[Call], turns: list[Turn], covering: Covering,
           start: tuple[Declared, frozenset[str]]) -> Basis:
     declared, unknown = start
     lives = Lives(declared.things, unknown)
-    batches, kinds = OfBatches(), OfKinds()
-    of_items: list[OfItems] = [OfStates(), OfReasons(declared.rows), OfAttributes(), OfFilters(), kinds]
+    batches, kinds, whys = OfBatches(), OfKinds(), OfWhys(declared)
+    of_items: list[OfItems] = [OfStates(), whys, OfReasons(declared.rows), OfAttributes(), OfFilters(), kinds]
     for call in calls:
         kinds.begin(call)
+        whys.begin(call)
     by_number = {call.number: call for call in calls}
     for done in (taken(by_number[turn.call], turn) for turn in turns if turn.call in by_number):
         if done.is_recorded:
             batches.call(done)
+            whys.call(done)
         for seen in lives.take(done):
             covering.take(done.call, seen, lives)
             for counting in of_items if done.is_recorded else ():

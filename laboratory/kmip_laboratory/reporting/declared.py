@@ -2,10 +2,10 @@
 
 from __future__ import annotations
 
-from typing import NamedTuple
+from typing import Any, NamedTuple
 
 from ..driving.store import Thing
-from ..recording.rules import Cause, Row
+from ..recording.rules import Cause, Row, Visibility
 from ..records import read_file, records
 from ..tags import FileTag, Tag
 from ..ttlv import Item, Kind
@@ -15,10 +15,15 @@ ITEM_NOT_FOUND = 1
 
 
 class Declared(NamedTuple):
-    """The rows, those that hold where a declaration has none too, and the objects."""
+    """The rows, those that hold where a declaration has none too, and the objects; the identifiers of those whose bytes
+    are declared, and whose an object is; whether names are unique, and who sees what."""
 
     rows: list[Row]
     things: list[Thing]
+    with_bytes: frozenset[str] = frozenset()
+    owners: tuple[tuple[str, str], ...] = ()
+    unique_names: bool = False
+    visibility: int = Visibility.everyone
 
 
 # Where nothing is declared.
@@ -27,15 +32,22 @@ NOTHING = Declared([Row(ITEM_NOT_FOUND, Cause.NotFound)], [])
 
 def read_declared(path: str) -> Declared:
     """What the declaration in this file says."""
-    rows: list[Row] = []
-    things: list[Thing] = []
-    for record in records(path, read_file(path)):
-        if record.item.tag == FileTag.ROW:
-            rows += _rows(record.item)
-        elif record.item.tag == FileTag.ENTRY:
-            identifier = record.item.first(Tag.UNIQUE_IDENTIFIER, Kind.TEXT)
-            things += [read_thing(identifier.value, record.item)] if identifier else []
-    return Declared(rows or NOTHING.rows, things)
+    items = [record.item for record in records(path, read_file(path))]
+    rows = [row for item in items if item.tag == FileTag.ROW for row in _rows(item)]
+    entries = {named.value: item for item in items if item.tag == FileTag.ENTRY
+               for named in item.every(Tag.UNIQUE_IDENTIFIER, Kind.TEXT)[:1]}
+    return Declared(rows or NOTHING.rows, [read_thing(name, item) for name, item in entries.items()],
+                    frozenset(name for name, item in entries.items() if item.every(Tag.KEY_MATERIAL, Kind.BYTES)),
+                    tuple((name, owner.value) for name, item in entries.items()
+                          for owner in item.every(FileTag.OWNER, Kind.TEXT)),
+                    _said(items, FileTag.UNIQUE_NAMES, Kind.BOOLEAN, False),
+                    _said(items, FileTag.VISIBILITY, Kind.ENUMERATION, Visibility.everyone))
+
+
+def _said(items: list[Item], tag: FileTag, kind: Kind, otherwise: Any) -> Any:
+    """What the header says under this tag."""
+    headers = (item for item in items if item.tag == FileTag.DECLARATION_HEADER)
+    return next((found.value for header in headers for found in header.every(tag, kind)), otherwise)
 
 
 def _rows(item: Item) -> list[Row]:
