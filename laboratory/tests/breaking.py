@@ -14,7 +14,7 @@ import messages
 import stub
 
 LINGER_AND_RESET = struct.pack("ii", 1, 0)
-SECONDS = 60
+SECONDS = 240
 PIECE = 1 << 16
 
 STAMP = 1_700_000_000

@@ -12,7 +12,7 @@ from typing import Iterator
 
 from laboratory import SECONDS, Laboratory, wait_until
 
-SECONDS_FOR_LAST_PACKETS = 1
+SECONDS_FOR_LAST_PACKETS = 2
 
 
 def need_tshark(test: Laboratory) -> None:

@@ -27,7 +27,7 @@ RECORDER = FOLDER / "kmip_record"
 AUDITOR = os.environ.get("KMIP_AUDIT", str(FOLDER.parent / "crates/kmip_audit/out/kmip_audit"))
 PYKMIP_PYTHON = os.environ.get("PYKMIP_PYTHON", "")
 # How long something is waited for that has to come: much longer than it takes, since the machine may do much else.
-SECONDS = 60
+SECONDS = 240
 
 sys.path.insert(0, str(FOLDER))
 

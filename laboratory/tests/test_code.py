@@ -23,7 +23,7 @@ from unittest import mock
 from laboratory import FOLDER
 
 PACKAGE = "kmip_laboratory"
-SECONDS_TO_LOOK = 600
+SECONDS_TO_LOOK = 1_500
 ENTRY = re.compile(r'^(kmip_\w+) = "([\w.]+):(\w+)"$', re.MULTILINE)
 
 

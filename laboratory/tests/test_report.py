@@ -499,9 +499,9 @@ class Report(unittest.TestCase):
         for name in ("slow", "quick"):
             shutil.copytree(EXAMPLES / "query", self.folder / "all" / name)
         with unittest.mock.patch.dict(os.environ, {"KMIP_AUDIT": str(program)}):
-            done = report("-", self.folder / "all", "--seconds", "4", "--text", "--junit", self.folder / "junit.xml")
+            done = report("-", self.folder / "all", "--seconds", "10", "--text", "--junit", self.folder / "junit.xml")
         self.assertEqual((done.returncode, done.stderr), (4, ""))
-        self.assertIn("the auditor gave no answer in 4 seconds", done.stdout)
+        self.assertIn("the auditor gave no answer in 10 seconds", done.stdout)
         self.assertIn("2 recordings: 1 yes, 1 not\n", done.stdout)
         self.assertEqual(ElementTree.parse(self.folder / "junit.xml").getroot().get("errors"), "1")
         self.assertEqual(report("-", EXAMPLES / "query", "--seconds", "0").returncode, 64)

@@ -20,7 +20,7 @@ from kmip_laboratory.driving.messages import Request, Response
 from kmip_laboratory.driving.server import Server
 from kmip_laboratory.driving.store import Clock
 
-SECONDS_OF_A_WAIT = 2.0
+SECONDS_OF_A_WAIT = 5.0
 SIZE_OF_LARGE = 600_000
 ASKED_MORE_THAN_FITS = 12
 

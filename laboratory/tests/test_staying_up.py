@@ -52,7 +52,7 @@ print("all are there", flush=True)
 time.sleep(600)
 """
 # How many seconds a client may be idle: it says its first request within them, on a machine that does much else too.
-IDLE = "1.5"
+IDLE = "4"
 FILES = Limit(resource.RLIMIT_NOFILE, 1_024)
 
 
