@@ -89,9 +89,7 @@ fn come_of(
         return Ok(Looked::Refuted);
     }
     match found {
-        Found::Yes(witness, steps) => {
-            look_along(alloc, transcript, declaration, witness, steps)
-        }
+        Found::Yes(witness, steps) => { look_along(alloc, transcript, declaration, witness, steps) }
         Found::GaveUp(_steps) => Ok(Looked::Undecided),
         Found::Refuted(_steps, _objects) => Ok(Looked::Undecided),
         Found::Impossible(_steps, _call) => Ok(Looked::Undecided),
